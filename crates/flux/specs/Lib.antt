@@ -1,0 +1,4 @@
+pub mod Face
+pub mod Law
+pub mod Letters
+pub mod Pace

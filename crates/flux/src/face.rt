@@ -1,0 +1,72 @@
+// One face as document 01 writes it: the flow numerator, the units moved, the letter.
+ghost use mathlib.Core.Path.{_≡_};
+ghost use Prim.Native.Nat.{_≤_, _<_, min, max};
+ghost use Rattle.road.specs.Judgement.{Accepted};
+ghost use Rattle.flux.specs.Face.{sending, receiving, numerator, units, letter};
+use road::Road;
+
+// Internal: the smaller of two numbers.
+fn smaller(a: u32, b: u32) -> u32
+    ensures { λ r. ⌜ r ≡ min a b ⌝ }
+{
+    if a < b { a } else { b }
+}
+
+// Internal: the greater of two numbers.
+fn greater(a: u32, b: u32) -> u32
+    ensures { λ r. ⌜ r ≡ max a b ⌝ }
+{
+    if a < b { b } else { a }
+}
+
+// Internal: what a cell of density a can send, times the divisor.
+pub fn sending(r: Road, a: u32) -> u32
+    requires { ⌜ Accepted r ⌝ }
+    ensures { λ f. ⌜ f ≡ sending r a ⌝ }
+{
+    r.free * smaller(a, r.critical)
+}
+
+// Internal: what a cell of density b can receive, times the divisor.
+pub fn receiving(r: Road, b: u32) -> u32
+    requires { ⌜ Accepted r ⌝ }
+    requires { ⌜ b ≤ r .jam ⌝ }
+    ensures { λ f. ⌜ f ≡ receiving r b ⌝ }
+{
+    r.wave * (r.jam - greater(b, r.critical))
+}
+
+// Internal: the flow numerator of the face between densities a and b.
+pub fn numerator(r: Road, a: u32, b: u32) -> u32
+    requires { ⌜ Accepted r ⌝ }
+    requires { ⌜ b ≤ r .jam ⌝ }
+    ensures { λ f. ⌜ f ≡ numerator r a b ⌝ }
+{
+    smaller(sending(r, a), receiving(r, b))
+}
+
+// Internal: the whole units of a numerator. The only division by the divisor.
+pub fn units(r: Road, f: u32) -> u32
+    requires { ⌜ 0 < r .divisor ⌝ }
+    ensures { λ u. ⌜ u ≡ units r f ⌝ }
+{
+    f / r.divisor
+}
+
+// Internal: the letter of the face between densities a and b: W 0, L 1, D 2.
+pub fn letter(r: Road, a: u32, b: u32) -> u8
+    requires { ⌜ Accepted r ⌝ }
+    requires { ⌜ a ≤ r .jam ⌝ }
+    requires { ⌜ b ≤ r .jam ⌝ }
+    ensures { λ s. ⌜ s ≡ letter r a b ⌝ }
+{
+    if r.critical < b {
+        let room = r.wave * (r.jam - b);
+        let sent = r.free * a;
+        if room < sent { 0 } else { 2 }
+    } else if r.critical < a {
+        1
+    } else {
+        2
+    }
+}

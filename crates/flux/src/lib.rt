@@ -1,0 +1,9 @@
+// One face of the triangular Godunov scheme: flow numerator, units moved, letter; and the units without a division.
+mod face;
+mod pace;
+
+pub use face::letter;
+pub use face::numerator;
+pub use face::units;
+pub use pace::Factor;
+pub use pace::Pace;

@@ -1,0 +1,32 @@
+-- `road::bad_densities` meets its contract: the test of J, or that of C.
+use mathlib.Core.Path.{_∙_, ap, ap₂}
+use Prim.Native.Nat.{ℕ}
+use Rattle.road.specs.Choice.{or}
+use Rattle.road.specs.Judgement.{outside}
+use borrow.Author.Needs.{needs}
+use Rattle.road.proofs.judgement.bad_densities.Statement.{statement}
+use Rattle.road.proofs.judgement.bad_densities.Tie as tie
+
+is-outside-requires : tie.Need-is-outside-requires
+is-outside-requires c κs = search needs
+
+less-requires : tie.Need-less-requires
+less-requires c κs = search needs
+
+is-outside-requires-2 : tie.Need-is-outside-requires-2
+is-outside-requires-2 c κs = search needs
+
+either-requires : tie.Need-either-requires
+either-requires c κs = search needs
+
+returns : tie.Need-returns
+returns c =
+    let r = c .before .before .before .before .args .r in
+    c .either .ensures
+    ∙ ap₂ or (c .before .before .before .is-outside .ensures)
+    (c .before .is-outside2 .ensures ∙ ap (λ (high : ℕ). outside 1 high (r .critical)) (c .before .before .less .ensures))
+
+pub bad-densities-spec : {M : Type 1} → statement M
+bad-densities-spec =
+    tie.close
+    (tie.spec is-outside-requires less-requires is-outside-requires-2 either-requires returns)

@@ -1,0 +1,48 @@
+-- `road::is_unbalanced` meets its contract: both products fit 64 bits, and `less` is the difference.
+use mathlib.Core.Path.{ap}
+use mathlib.Core.Bool.{not}
+use Prim.Native.Nat.{ℕ, _*_}
+use lib.Dec.{eqb}
+use Rattle.road.proofs.Product.{below}
+use borrow.Author.Needs.{needs}
+use Rattle.road.proofs.judgement.is_unbalanced.Statement.{statement}
+use Rattle.road.proofs.judgement.is_unbalanced.Tie as tie
+
+cast-sent : tie.Need-cast-sent
+cast-sent c = search needs
+
+cast-sent-2 : tie.Need-cast-sent-2
+cast-sent-2 c = search needs
+
+mul-sent : tie.Need-mul-sent
+mul-sent c = record { fits = below 32 (search needs) (search needs) }
+
+cast-received : tie.Need-cast-received
+cast-received c = search needs
+
+less-requires : tie.Need-less-requires
+less-requires c κs = search needs
+
+cast-received-2 : tie.Need-cast-received-2
+cast-received-2 c = search needs
+
+mul-received : tie.Need-mul-received
+mul-received c = record { fits = below 32 (search needs) (search needs) }
+
+returns : tie.Need-returns
+returns c =
+    let r = c .before .before .before .before .args .r in
+    ap (λ (room : ℕ). not (eqb (r .free * r .critical) (r .wave * room))) (c .less .ensures)
+
+pub is-unbalanced-spec : {M : Type 1} → statement M
+is-unbalanced-spec =
+    tie.close
+    (tie.spec
+    cast-sent
+    cast-sent-2
+    mul-sent
+    cast-received
+    less-requires
+    cast-received-2
+    mul-received
+    returns)

@@ -1,0 +1,71 @@
+-- `road::judged` meets its contract: the code goes down the rows as the table does.
+use mathlib.Core.Path.{_∙_, refl}
+use Rattle.road.specs.Judgement.{roadRefusal}
+use Rattle.road.proofs.Table.{next-row}
+use borrow.Author.Needs.{needs}
+use Rattle.road.proofs.judgement.judged.Statement.{statement}
+use Rattle.road.proofs.judgement.judged.Tie as tie
+
+bad-divisor-requires : tie.Need-bad-divisor-requires
+bad-divisor-requires c κs = search needs
+
+bad-speeds-requires : tie.Need-bad-speeds-requires
+bad-speeds-requires c κs = search needs
+
+bad-densities-requires : tie.Need-bad-densities-requires
+bad-densities-requires c κs = search needs
+
+is-unbalanced-requires : tie.Need-is-unbalanced-requires
+is-unbalanced-requires c κs = search needs
+
+none-requires : tie.Need-none-requires
+none-requires c κs = search needs
+
+or-if-requires : tie.Need-or-if-requires
+or-if-requires c κs = search needs
+
+or-if-requires-2 : tie.Need-or-if-requires-2
+or-if-requires-2 c κs = search needs
+
+or-if-requires-3 : tie.Need-or-if-requires-3
+or-if-requires-3 c κs = search needs
+
+or-if-requires-4 : tie.Need-or-if-requires-4
+or-if-requires-4 c κs = search needs
+
+returns : tie.Need-returns
+unfolding roadRefusal
+returns c =
+    let none = c .before .before .before .before in
+    let balance = none .before in
+    let densities = balance .before in
+    let speeds = densities .before in
+    let divisor = speeds .before in
+    c .or-if4 .ensures
+    ∙ next-row 4
+    (c .before .or-if3 .ensures
+    ∙ next-row 3
+    (c .before .before .or-if2 .ensures
+    ∙ next-row 2
+    (c .before .before .before .or-if .ensures ∙ next-row 1 (none .none .ensures) (divisor .bad-divisor .ensures) refl)
+    (speeds .bad-speeds .ensures)
+    refl)
+    (densities .bad-densities .ensures)
+    refl)
+    (balance .is-unbalanced .ensures)
+    refl
+
+pub judged-spec : {M : Type 1} → statement M
+judged-spec =
+    tie.close
+    (tie.spec
+    bad-divisor-requires
+    bad-speeds-requires
+    bad-densities-requires
+    is-unbalanced-requires
+    none-requires
+    or-if-requires
+    or-if-requires-2
+    or-if-requires-3
+    or-if-requires-4
+    returns)

@@ -1,0 +1,4 @@
+pub mod Ceilings
+pub mod Choice
+pub mod Table
+pub mod Judgement

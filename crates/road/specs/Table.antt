@@ -1,0 +1,54 @@
+-- The refusal table as a form: rows of a condition, a number and a place; the lowest number that applies is returned.
+use mathlib.Core.Path.{_≡_}
+use mathlib.Core.Bool.{Bool, true}
+use mathlib.Core.List.{List, [], _∷_}
+use Prim.Native.Nat.{ℕ, _≤_, _<_}
+use lib.Dec.{eqb, ltb}
+use lib.ListN.{length, getD}
+use Rattle.road.specs.Choice.{pick, both}
+use Rattle.road.specs.declared.refusal.Refusal.{Refusal}
+
+-- a refusal with its number and place
+abbrev pub refused : ℕ → ℕ → Refusal
+refused number place = record { number = number; place = place }
+
+-- nothing is refused: number 0
+abbrev pub passed : Refusal
+passed = refused 0 0
+
+-- one more row: a refusal by a row above stands; otherwise this row refuses where its condition holds
+unfoldable pub orIf : Refusal → Bool → ℕ → ℕ → Refusal
+orIf above condition number place = pick (eqb (above .number) 0) (pick condition (refused number place) above) above
+
+-- a row of the table: condition, number, place reported
+pub record Row : Type 0 where
+  pub condition : Bool
+  pub number : ℕ
+  pub place : ℕ
+
+abbrev pub row : Bool → ℕ → ℕ → Row
+row condition number place = record { condition = condition; number = number; place = place }
+
+-- the rows judged down the table, below what the rows above came to
+abbrev pub judgeBelow : Refusal → List Row → Refusal
+judgeBelow above [] = above
+judgeBelow above (r ∷ rs) = judgeBelow (orIf above (r .condition) (r .number) (r .place)) rs
+
+-- what a table comes to: the lowest number that applies, or none
+abbrev pub judge : List Row → Refusal
+judge rows = judgeBelow passed rows
+
+-- the numbers of the rows rise, from above the number given
+abbrev pub rising : ℕ → List Row → Bool
+rising k [] = true
+rising k (r ∷ rs) = both (ltb k (r .number)) (rising (r .number) rs)
+
+-- the table has a row of this number and place whose condition holds
+abbrev pub Applies : List Row → ℕ → ℕ → Type 0
+Applies rows number place = (i : ℕ) × (i < length rows) × (getD rows i (row true 0 0) ≡ row true number place)
+
+-- "The lowest number that applies is returned": a number returned applies, with its place, and no lower one does; where one applies, one is returned
+pub record Lowest (rows : List Row) (f : Refusal) : Type 0 where
+  pub applies : 0 < f .number → Applies rows (f .number) (f .place)
+  pub returned : (number place : ℕ) → Applies rows number place → 0 < f .number
+  pub lowest : (number place : ℕ) → Applies rows number place → f .number ≤ number

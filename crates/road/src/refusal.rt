@@ -1,0 +1,36 @@
+// The refusal, and the rule that the lowest number that applies is returned (document 01, "Where each refusal is made").
+ghost use mathlib.Core.Path.{_≡_};
+ghost use Rattle.road.specs.Table.{passed, orIf};
+
+// A refusal's number and place; number 0 says that nothing is refused.
+pub struct Refusal {
+    pub number: u32,
+    pub place: u32,
+}
+
+impl Refusal {
+    // Internal: nothing is refused. The head of a table.
+    pub fn none() -> Refusal
+        ensures { λ r. ⌜ r ≡ passed ⌝ }
+    {
+        Refusal {
+            number: 0,
+            place: 0,
+        }
+    }
+
+    // Internal: the next row of a table. A refusal by a row above stands; otherwise this row refuses where its
+    // condition holds.
+    pub fn or_if(self, condition: bool, number: u32, place: u32) -> Refusal
+        ensures { λ r. ⌜ r ≡ orIf self condition number place ⌝ }
+    {
+        if self.number != 0 {
+            return self;
+        }
+        if condition {
+            Refusal { number, place }
+        } else {
+            self
+        }
+    }
+}
