@@ -1,10 +1,21 @@
 -- The starred cases hold: each is computed from the definitions.
 use mathlib.Core.Path.{refl}
-use Rattle.flux.specs.Face.{sending, receiving, numerator, units, inW, inL, letter}
+use Rattle.road.specs.Table.{orIf}
+use Rattle.road.specs.Judgement.{roadRefusal}
+use Rattle.flux.specs.Face.{sending, receiving, numerator, units, scaled, inW, inL, letter}
+use Rattle.checks.specs.Values.{firstAbove}
+use Rattle.scheme.specs.Advance.{ahead, advance, outflow, entering, leaving, stepped}
+use Rattle.scheme.specs.Sums.{sum}
+use Rattle.scheme.specs.Word.{wordOf}
+use Rattle.scheme.specs.Rounded.{moved, roundStep, roundRun, entered, left}
+use Rattle.scheme.specs.Exact.{exactFlow, exactStep}
+use Rattle.scheme.specs.Settling.{sameWord, still, after, settles, settleSteps, settleCells}
+use Rattle.forecast.specs.Forecast.{forecastRefusal, forecastAnswer, forecastCells}
+use Rattle.forecast.specs.Settle.{settleRefusal, settleAnswer, settleOutput}
 use Rattle.cases.specs.Starred.{Starred}
 
 pub starred : Starred
-unfolding sending receiving numerator units inW inL letter
+unfolding sending receiving numerator units scaled inW inL letter orIf roadRefusal firstAbove ahead advance outflow entering leaving stepped sum wordOf moved roundStep roundRun entered left exactFlow exactStep sameWord still after settles settleSteps settleCells forecastRefusal forecastAnswer forecastCells settleRefusal settleAnswer settleOutput
 starred = record {
   letter-200-200 = refl;
   units-200-200 = refl;
@@ -20,4 +31,15 @@ starred = record {
   units-0-1000 = refl;
   letter-1-1000 = refl;
   units-1-1000 = refl;
+  one-cell = refl;
+  one-entered = refl;
+  one-left = refl;
+  one-exact = refl;
+  three-letters = refl;
+  three-cells = refl;
+  three-entered = refl;
+  three-left = refl;
+  settled = refl;
+  settled-steps = refl;
+  settled-cell = refl;
 }

@@ -1,8 +1,15 @@
 -- The starred cases of document 01, "Road A at its edges": one record, one field a starred value.
 use mathlib.Core.Path.{_≡_}
+use mathlib.Core.Bool.{true}
+use mathlib.Core.List.{List, [], _∷_}
 use Prim.Native.Nat.{ℕ}
+use lib.ListN.{length}
 use Rattle.road.specs.declared.Road.{Road}
 use Rattle.flux.specs.Face.{numerator, units, letterW, letterL, letterD, letter}
+use Rattle.scheme.specs.Exact.{exactStep}
+use Rattle.scheme.specs.Word.{wordOf}
+use Rattle.forecast.specs.Forecast as Forecast
+use Rattle.forecast.specs.Settle as Settle
 
 -- Road A: J 1000, C 200, D 5, p 4, q 1
 abbrev pub roadA : Road
@@ -11,6 +18,21 @@ roadA = record { divisor = 5; free = 4; wave = 1; jam = 1000; critical = 200 }
 -- the units moved over a face of road A
 abbrev pub moves : ℕ → ℕ → ℕ
 moves a b = units roadA (numerator roadA a b)
+
+-- one step of road A from some cells between two ends: what the forecast reports and hands back
+abbrev pub oneStep : List ℕ → ℕ → ℕ → Forecast.Meaning
+oneStep cells up down = Forecast.meaning (Forecast.forecastAnswer roadA cells (up ∷ []) (down ∷ []) 1 (length cells))
+
+abbrev pub oneStepCells : List ℕ → ℕ → ℕ → List ℕ
+oneStepCells cells up down = Forecast.forecastCells roadA cells (up ∷ []) (down ∷ []) 1 cells
+
+-- the starred three cells
+abbrev pub three : List ℕ
+three = 300 ∷ 150 ∷ 700 ∷ []
+
+-- the starred settling run: one cell 2, ends 0, T 9
+abbrev pub settling : Settle.Meaning
+settling = Settle.meaning (Settle.settleAnswer roadA (2 ∷ []) 0 0 9 1)
 
 pub record Starred : Type 0 where
   -- faces: letter and units
@@ -28,3 +50,17 @@ pub record Starred : Type 0 where
   pub units-0-1000 : moves 0 1000 ≡ 0
   pub letter-1-1000 : letter roadA 1 1000 ≡ letterW
   pub units-1-1000 : moves 1 1000 ≡ 0
+  -- one cell 101, ends 0
+  pub one-cell : oneStepCells (101 ∷ []) 0 0 ≡ 21 ∷ []
+  pub one-entered : oneStep (101 ∷ []) 0 0 .entered ≡ 0
+  pub one-left : oneStep (101 ∷ []) 0 0 .left ≡ 80
+  pub one-exact : exactStep roadA 1 0 0 (101 ∷ []) ≡ 101 ∷ []
+  -- upstream 100, cells 300, 150, 700, downstream 0
+  pub three-letters : wordOf roadA 100 0 three ≡ letterD ∷ letterL ∷ letterW ∷ letterL ∷ []
+  pub three-cells : oneStepCells three 100 0 ≡ 220 ∷ 250 ∷ 600 ∷ []
+  pub three-entered : oneStep three 100 0 .entered ≡ 80
+  pub three-left : oneStep three 100 0 .left ≡ 160
+  -- one cell 2, ends 0, T 9
+  pub settled : settling .settled ≡ true
+  pub settled-steps : settling .steps ≡ 1
+  pub settled-cell : Settle.settleOutput roadA (2 ∷ []) 0 0 9 (2 ∷ []) ≡ 1 ∷ []

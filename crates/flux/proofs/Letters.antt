@@ -1,8 +1,9 @@
 -- Each pair of densities has exactly one letter, its letter's flow is the published one, and which letters may follow each other.
 use mathlib.Core.Path.{_≡_, _∙_, refl, sym}
 use mathlib.Core.Bool.{Bool, true, false}
-use Prim.Native.Nat.{ℕ, _-_, _*_, _≤_, _<_, min}
-use native.Mathlib.Nat.{le-of-lt, mul-le-mul-left, mul-lt-mul-of-pos-left, min-eq-left, min-eq-right, sub-le-sub-left, lt-of-not-le}
+use mathlib.Core.Logic.{_↔_}
+use Prim.Native.Nat.{ℕ, _+_, _-_, _*_, _≤_, _<_, min}
+use native.Mathlib.Nat.{le-of-lt, mul-le-mul-left, mul-lt-mul-of-pos-left, min-eq-left, min-eq-right, sub-le-sub-left, mul-sub, lt-of-not-le}
 use native.Mathlib.Decide.{decLe}
 use native.Mathlib.Omega.{arith}
 use borrow.Author.Tests.{lt-ltb, le-ltb, le-leb, lt-leb}
@@ -36,7 +37,7 @@ free-D r a b h w = simp (le-ltb _ _ h, le-ltb _ _ w)
 
 -- the numbers behind the regions: from critical on the room falls strictly, and p × C is what a cell at critical receives
 module _ (r : Road) (ok : Accepted r) (a b : ℕ) where
-  -- up to critical a free cell below it takes all that a free cell above it sends
+  -- a free downstream cell takes all that a free upstream cell sends
   room-free : a ≤ r .critical → b ≤ r .critical → r .free * a ≤ r .wave * (r .jam - b)
   room-free h g =
       let sent = mul-le-mul-left (r .free) h in
@@ -44,7 +45,7 @@ module _ (r : Road) (ok : Accepted r) (a b : ℕ) where
       let same = ok .balance in
       omega arith
 
-  -- past critical a cell that takes all that is sent has a free cell above it
+  -- a full downstream cell that takes all that is sent has a free cell upstream
   free-above : r .critical < b → r .free * a ≤ r .wave * (r .jam - b) → a ≤ r .critical
   free-above h g = below (decLe a (r .critical))
     where
@@ -156,3 +157,10 @@ no-L-L r ok a b c l k =
     let s = one-letter r ok a b .L .0 l in
     let t = one-letter r ok b c .L .0 k in
     omega (arith, s .1, t .0)
+
+-- source 004 (III.10) prints the border of W and D as b + (p/q) × a against jam: times q, and for densities up to jam, that is the test made here
+pub printed-border : (r : Road) (a b : ℕ) → b ≤ r .jam → (r .wave * (r .jam - b) < r .free * a) ↔ (r .wave * r .jam < r .wave * b + r .free * a)
+printed-border r a b h =
+    let split = mul-sub (r .wave) (r .jam) b in
+    let under = mul-le-mul-left (r .wave) h in
+    (λ w. omega arith, λ w. omega arith)

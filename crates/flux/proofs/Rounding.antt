@@ -1,4 +1,4 @@
--- The four laws of `units`, and what follows from them. No other file opens the division.
+-- The four laws of `units`, and what follows from them. Only these laws, the code of `units` and the multipliers open the division.
 use mathlib.Core.Path.{_≡_, _∙_, ap}
 use Prim.Native.Nat.{ℕ, _+_, _*_, _≤_, _<_, min}
 use native.Mathlib.Nat.{le-trans, zero-div, zero-add, div-mul-le-self, le-div-iff-mul-le, lt-div-mul-add, add-mul-div-right, min-eq-left, min-eq-right, le-of-lt, lt-of-not-le}

@@ -3,7 +3,7 @@ use mathlib.Core.Path.{_≡_}
 use Prim.Native.Nat.{ℕ, _+_, _-_, _*_, _≤_}
 use Rattle.road.specs.declared.Road.{Road}
 
--- What a flow F (upstream density, downstream density) keeps on densities up to jam j with critical density c, where a cell's number grows by the multiplier m each step
+-- What a flow F (upstream density, downstream density) keeps on densities up to jam j with critical density c, where a step multiplies a cell's number by m before the flows
 pub record Law (m j c : ℕ) (F : ℕ → ℕ → ℕ) : Type 0 where
   -- more upstream, no less flow; more downstream, no more flow
   pub up : (a a′ b : ℕ) → a ≤ a′ → F a b ≤ F a′ b

@@ -45,7 +45,7 @@ pub fn numerator(r: Road, a: u32, b: u32) -> u32
     smaller(sending(r, a), receiving(r, b))
 }
 
-// Internal: the whole units of a numerator. The only division by the divisor.
+// Internal: the whole units of a numerator, by division. The pace of a road has them without one.
 pub fn units(r: Road, f: u32) -> u32
     requires { ⌜ 0 < r .divisor ⌝ }
     ensures { λ u. ⌜ u ≡ units r f ⌝ }

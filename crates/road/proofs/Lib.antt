@@ -1,3 +1,4 @@
 pub mod Product
+pub mod Choice
 pub mod Table
 pub mod Acceptance

@@ -1,9 +1,10 @@
 -- The rule of the refusal table: the number returned applies, and no lower one does.
 use mathlib.Core.Path.{_≡_, _∙_, refl, sym, ap, subst}
+use mathlib.Core.Logic.{_⊎_, inl, inr}
 use mathlib.Core.Bool.{Bool, true, false, true≢false}
-use mathlib.Core.List.{List, [], _∷_}
+use mathlib.Core.List.{List, [], _∷_, _++_}
 use Prim.Native.Nat.{ℕ, zero, suc, _≤_, _<_, zero-le, suc-le-suc}
-use native.Mathlib.Nat.{le-of-suc-le-suc, not-suc-le-zero}
+use native.Mathlib.Nat.{le-of-suc-le-suc, not-suc-le-zero, eq-zero-or-pos}
 use native.Mathlib.Omega.{arith}
 use lib.Dec.{T, ltb, ltb→lt}
 use lib.ListN.{length, getD}
@@ -34,11 +35,11 @@ stands f [] h = refl
 stands f (r ∷ rs) h =
     ap (λ (g : Refusal). judgeBelow g rs) (row-stands f (r .condition) (r .number) (r .place) h) ∙ stands f rs h
 
-both-left : (a b : Bool) → T (both a b) → T a
+pub both-left : (a b : Bool) → T (both a b) → T a
 both-left true b t = tt
 both-left false b t = t
 
-both-right : (a b : Bool) → T (both a b) → T b
+pub both-right : (a b : Bool) → T (both a b) → T b
 both-right true b t = t
 both-right false b t = absurd t
 
@@ -123,10 +124,76 @@ none-holds rows t e i h = by-test ((getD rows i (row true 0 0)) .condition) refl
         absurd (omega arith)
     by-test false q = refl
 
--- where no row's condition holds, nothing is refused
-pub all-pass : (rows : List Row) → ((i : ℕ) → i < length rows → (getD rows i (row true 0 0)) .condition ≡ false) → judge rows ≡ passed
-all-pass [] h = refl
-all-pass (r ∷ rs) h =
-    ap (λ (c : Bool). judgeBelow (orIf passed c (r .number) (r .place)) rs) (h 0 (suc-le-suc zero-le))
+-- no row's condition holds
+abbrev pub Passing : List Row → Type 0
+Passing [] = Unit {0}
+Passing (r ∷ rs) = (r .condition ≡ false) × Passing rs
+
+pub passing-append : (rows more : List Row) → Passing rows → Passing more → Passing (rows ++ more)
+passing-append [] more p q = q
+passing-append (r ∷ rs) more (e, p) q = (e, passing-append rs more p q)
+
+-- then nothing is refused
+pub all-pass : (rows : List Row) → Passing rows → judge rows ≡ passed
+all-pass [] p = refl
+all-pass (r ∷ rs) (e, p) =
+    ap (λ (c : Bool). judgeBelow (orIf passed c (r .number) (r .place)) rs) e
     ∙ ap (λ (f : Refusal). judgeBelow f rs) (row-passes (r .number) (r .place))
-    ∙ all-pass rs (λ i l. h (suc i) (suc-le-suc l))
+    ∙ all-pass rs p
+
+-- where nothing is refused, no row's condition holds
+passing-of : (rows : List Row) → ((i : ℕ) → i < length rows → (getD rows i (row true 0 0)) .condition ≡ false) → Passing rows
+passing-of [] h = tt
+passing-of (r ∷ rs) h = (h 0 (suc-le-suc zero-le), passing-of rs (λ i l. h (suc i) (suc-le-suc l)))
+
+-- a table in two parts: the second is judged below what the first came to
+pub judge-append : (f : Refusal) (rows more : List Row) → judgeBelow f (rows ++ more) ≡ judgeBelow (judgeBelow f rows) more
+judge-append f [] more = refl
+judge-append f (r ∷ rs) more = judge-append (orIf f (r .condition) (r .number) (r .place)) rs more
+
+-- a refusal by the first part stands
+pub first-part-stands : (rows more : List Row) → 0 < judge rows .number → judge (rows ++ more) ≡ judge rows
+first-part-stands rows more h = judge-append passed rows more ∙ stands (judge rows) more h
+
+-- number 0 comes with place 0
+pub nothing-refused : (rows : List Row) → T (rising 0 rows) → judge rows .number ≡ 0 → judge rows ≡ passed
+nothing-refused rows t e = all-pass rows (passing-of rows (none-holds rows t e))
+
+-- where the whole refuses nothing, neither does the first part
+pub first-part-passes : (rows more : List Row) → judge (rows ++ more) .number ≡ 0 → judge rows .number ≡ 0
+first-part-passes rows more e = by-number (eq-zero-or-pos (judge rows .number))
+  where
+    by-number : (judge rows .number ≡ 0) ⊎ (0 < judge rows .number) → judge rows .number ≡ 0
+    by-number (inl z) = z
+    by-number (inr p) = absurd (let same = ap (λ (f : Refusal). f .number) (first-part-stands rows more p) in omega arith)
+
+-- every number of rising rows is above the start, and no two rows have the same
+entry-above : (k : ℕ) (rows : List Row) → T (rising k rows) → (i : ℕ) → i < length rows → k < (getD rows i (row true 0 0)) .number
+entry-above k [] t i h = absurd (not-suc-le-zero h)
+entry-above k (r ∷ rs) t zero h = ltb→lt k (r .number) (both-left (ltb k (r .number)) (rising (r .number) rs) t)
+entry-above k (r ∷ rs) t (suc i) h =
+    let low = ltb→lt k (r .number) (both-left (ltb k (r .number)) (rising (r .number) rs) t) in
+    let more = entry-above (r .number) rs (both-right (ltb k (r .number)) (rising (r .number) rs) t) i (le-of-suc-le-suc h) in
+    omega arith
+
+number-once : (k : ℕ) (rows : List Row) → T (rising k rows) → (i j : ℕ) → i < length rows → j < length rows
+    → (getD rows i (row true 0 0)) .number ≡ (getD rows j (row true 0 0)) .number → i ≡ j
+number-once k [] t i j h g e = absurd (not-suc-le-zero h)
+number-once k (r ∷ rs) t zero zero h g e = refl
+number-once k (r ∷ rs) t zero (suc j) h g e =
+    let more = entry-above (r .number) rs (both-right (ltb k (r .number)) (rising (r .number) rs) t) j (le-of-suc-le-suc g) in
+    absurd (omega arith)
+number-once k (r ∷ rs) t (suc i) zero h g e =
+    let more = entry-above (r .number) rs (both-right (ltb k (r .number)) (rising (r .number) rs) t) i (le-of-suc-le-suc h) in
+    absurd (omega arith)
+number-once k (r ∷ rs) t (suc i) (suc j) h g e =
+    ap suc (number-once (r .number) rs (both-right (ltb k (r .number)) (rising (r .number) rs) t) i j (le-of-suc-le-suc h) (le-of-suc-le-suc g) e)
+
+-- the number returned is that of one row alone: its condition holds, and its place is the one returned
+pub row-returned : (rows : List Row) → T (rising 0 rows) → (j : ℕ) → j < length rows → judge rows .number ≡ (getD rows j (row true 0 0)) .number
+    → getD rows j (row true 0 0) ≡ row true (judge rows .number) (judge rows .place)
+row-returned rows t j h e =
+    let low = entry-above 0 rows t j h in
+    let (i, l, q) = the-rule rows t .applies (omega arith) in
+    let same : i ≡ j = number-once 0 rows t i j l h (ap (λ (r : Row). r .number) q ∙ e) in
+    ap (λ (n : ℕ). getD rows n (row true 0 0)) (sym same) ∙ q

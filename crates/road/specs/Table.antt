@@ -1,4 +1,4 @@
--- The refusal table as a form: rows of a condition, a number and a place; the lowest number that applies is returned.
+-- The refusal table as a form: rows of a condition, a number and a place. The first row that applies is returned, which is the lowest number where the numbers rise.
 use mathlib.Core.Path.{_≡_}
 use mathlib.Core.Bool.{Bool, true}
 use mathlib.Core.List.{List, [], _∷_}
@@ -34,7 +34,7 @@ abbrev pub judgeBelow : Refusal → List Row → Refusal
 judgeBelow above [] = above
 judgeBelow above (r ∷ rs) = judgeBelow (orIf above (r .condition) (r .number) (r .place)) rs
 
--- what a table comes to: the lowest number that applies, or none
+-- what a table comes to: its first row that applies, or none
 abbrev pub judge : List Row → Refusal
 judge rows = judgeBelow passed rows
 

@@ -15,7 +15,7 @@ impl Road {
     pub const COUNT: u32 = 40;
 }
 
-// Each constant handed out with the equation to its definition: a moved constant is refused here.
+// Internal: each constant with the equation to its definition, so that a moved constant is refused here.
 pub fn cells_ceiling() -> u32
     ensures { λ r. ⌜ r ≡ cellsCeiling ⌝ }
 {

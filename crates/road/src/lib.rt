@@ -1,8 +1,9 @@
-// The road: five numbers, its ceilings, and the judgement that every call makes of it first.
+// The road: five numbers, its ceilings, and the judgement that every call with a road makes of it first.
 mod ceilings;
 mod judgement;
 mod refusal;
 
+pub use judgement::either;
 pub use judgement::judged;
 pub use refusal::Refusal;
 

@@ -21,3 +21,27 @@ pub fn refusal(f: Refusal) {
         number(f.place as u64);
     }
 }
+
+// One density of a list, where it has one there.
+fn cell(xs: &[u32], i: usize) {
+    if i < xs.len() {
+        text(b" ");
+        number(wide(xs[i]));
+    }
+}
+
+fn wide(x: u32) -> u64 {
+    x as u64
+}
+
+// The first cells of a list, at most four, and how many there are in all.
+pub fn cells(xs: &[u32]) {
+    cell(xs, 0);
+    cell(xs, 1);
+    cell(xs, 2);
+    cell(xs, 3);
+    if 4 < xs.len() {
+        text(b" .. of ");
+        number(xs.len() as u64);
+    }
+}

@@ -1,0 +1,46 @@
+-- What each row says where it does not refuse, and the other way round.
+use mathlib.Core.Path.{_≡_}
+use mathlib.Core.Bool.{false, not}
+use Prim.Native.Nat.{ℕ, _≤_}
+use lib.Dec.{eqb}
+use borrow.Author.Tests.{eqb-true, eq-eqb, ltb-false, le-ltb, not-false}
+use Rattle.road.specs.Ceilings.{cellsCeiling, horizonCeiling}
+use Rattle.road.proofs.Choice.{or-left, or-right, neither, from-low, to-high, inside}
+use Rattle.checks.specs.Lists.{badCells, badHorizon, badEnds, badOutput}
+
+-- two numbers that a test does not tell apart
+same : (a b : ℕ) → not (eqb a b) ≡ false → a ≡ b
+same a b e = eqb-true a b (not-false (eqb a b) e)
+
+alike : (a b : ℕ) → a ≡ b → not (eqb a b) ≡ false
+alike a b e = rw (eq-eqb a b e)
+
+pub cells-low : (n : ℕ) → badCells n ≡ false → 1 ≤ n
+cells-low n e = from-low 1 cellsCeiling n e
+
+pub cells-high : (n : ℕ) → badCells n ≡ false → n ≤ cellsCeiling
+cells-high n e = to-high 1 cellsCeiling n e
+
+pub cells-pass : (n : ℕ) → 1 ≤ n → n ≤ cellsCeiling → badCells n ≡ false
+cells-pass n l h = inside 1 cellsCeiling n l h
+
+pub horizon-high : (t : ℕ) → badHorizon t ≡ false → t ≤ horizonCeiling
+horizon-high t e = ltb-false horizonCeiling t e
+
+pub horizon-passes : (t : ℕ) → t ≤ horizonCeiling → badHorizon t ≡ false
+horizon-passes t h = le-ltb horizonCeiling t h
+
+pub ups-long : (t ups downs : ℕ) → badEnds t ups downs ≡ false → ups ≡ t
+ups-long t ups downs e = same ups t (or-left (not (eqb ups t)) (not (eqb downs t)) e)
+
+pub downs-long : (t ups downs : ℕ) → badEnds t ups downs ≡ false → downs ≡ t
+downs-long t ups downs e = same downs t (or-right (not (eqb ups t)) (not (eqb downs t)) e)
+
+pub ends-pass : (t ups downs : ℕ) → ups ≡ t → downs ≡ t → badEnds t ups downs ≡ false
+ends-pass t ups downs u d = neither (not (eqb ups t)) (not (eqb downs t)) (alike ups t u) (alike downs t d)
+
+pub output-long : (expected given : ℕ) → badOutput expected given ≡ false → given ≡ expected
+output-long expected given e = same given expected e
+
+pub output-passes : (expected given : ℕ) → given ≡ expected → badOutput expected given ≡ false
+output-passes expected given e = alike given expected e

@@ -1,0 +1,67 @@
+-- What the public calls hand to the scheme and take back from it: a pace made of the road, a copy of the cells.
+use mathlib.Core.Path.{_≡_, _∙_, sym, ap}
+use mathlib.Core.List.{List}
+use Prim.Native.Nat.{ℕ, _≤_, _<_}
+use native.Mathlib.Omega.{arith}
+use lib.ListN.{length}
+use Rattle.road.specs.Ceilings.{horizonCeiling}
+use Rattle.road.specs.Judgement.{Accepted}
+use Rattle.road.specs.declared.Road.{Road}
+use Rattle.flux.specs.Pace.{paceOf}
+use Rattle.flux.specs.declared.pace.Pace.{Pace}
+use Rattle.scheme.specs.Sums.{Below}
+use Rattle.scheme.specs.Calls.{Ready, Ran, SettledTo}
+use Rattle.scheme.specs.declared.many_steps.Totals.{Totals}
+use Rattle.scheme.specs.declared.settling.Settled.{Settled}
+use Rattle.forecast.specs.declared.forecasting.ForecastAnswer.the-variants as F
+use Rattle.forecast.specs.declared.settling.SettleAnswer.the-variants as S
+use Rattle.forecast.specs.Forecast.{forecastRefusal, Checked, Forecasts}
+use Rattle.forecast.specs.Settle.{settleRefusal, SettleChecked, Settles}
+use Rattle.forecast.proofs.Answers.{done, settle-done}
+
+module _ (r : Road) (p : Pace) (made : p ≡ paceOf r) where
+  -- a pace keeps its road
+  road-of : p .road ≡ r
+  unfolding paceOf
+  road-of = ap (λ (q : Pace). q .road) made
+
+  ready : Accepted r → Ready p
+  ready ok = record { accepted = rw road-of ok; made = made ∙ ap paceOf (sym road-of) }
+
+  module _ (cells xs : List ℕ) (copied : xs ≡ cells) where
+    -- what the run asks, of a checked input
+    pub run-asks : (ups downs : List ℕ) (t out : ℕ) → Checked r cells ups downs t out
+        → Ready p × ((0 < length xs) × (Below (p .road .jam) xs × (Below (p .road .jam) ups × (Below (p .road .jam) downs × ((length downs ≡ length ups) × (length ups ≤ horizonCeiling))))))
+    run-asks ups downs t out c = (
+      ready (c .accepted),
+      rw (road-of, copied) (
+        c .cells-low,
+        (
+          c .cells-below,
+          (
+            c .ups-below,
+            (
+              c .downs-below,
+              (
+                c .downs-long ∙ sym (c .ups-long),
+                let u = c .ups-long in let h = c .horizon-high in omega arith,
+              ),
+            ),
+          ),
+        ),
+      ),
+    )
+
+    -- what it hands back, as the forecast's promise
+    pub run-gives : (ups downs : List ℕ) (t : ℕ) (out : List ℕ) → forecastRefusal r cells ups downs t (length out) .number ≡ 0
+        → (next : List ℕ) (d : Totals) → Ran (p .road) ups downs xs next d → Forecasts r cells ups downs t out next (F.Done d)
+    run-gives ups downs t out e next d ran = done r cells ups downs t out e next d (rw (road-of, copied) at ran)
+
+    pub settle-asks : (up down t out : ℕ) → SettleChecked r cells up down t out
+        → Ready p × ((0 < length xs) × (Below (p .road .jam) xs × ((up ≤ p .road .jam) × (down ≤ p .road .jam))))
+    settle-asks up down t out c =
+        (ready (c .accepted), rw (road-of, copied) (c .cells-low, (c .cells-below, (c .up-below, c .down-below))))
+
+    pub settle-gives : (up down t : ℕ) (out : List ℕ) → settleRefusal r cells up down t (length out) .number ≡ 0
+        → (next : List ℕ) (d : Settled) → SettledTo (p .road) up down t xs next d → Settles r cells up down t out next (S.Done d)
+    settle-gives up down t out e next d ran = settle-done r cells up down t out e next d (rw (road-of, copied) at ran)

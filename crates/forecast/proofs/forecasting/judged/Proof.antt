@@ -1,0 +1,121 @@
+-- `forecast::judged` meets its contract: a refusal of the shape stands, and below it the values are judged row by row.
+use mathlib.Core.Path.{_∙_, sym, ap}
+use Prim.Native.Nat.{ℕ, _+_, _≤_}
+use native.Mathlib.Omega.{arith}
+use lib.Dec.{ltb}
+use lib.ListN.{length}
+use Rattle.road.specs.Ceilings.{cellsCeiling, horizonCeiling}
+use Rattle.road.specs.declared.refusal.Refusal.{Refusal}
+use Rattle.road.proofs.Table.{next-row}
+use Rattle.checks.proofs.First.{first-bound}
+use Rattle.forecast.specs.Forecast.{shapeRefusal, forecastRefusal}
+use Rattle.forecast.proofs.Checked.{shape-stands, shape-short}
+use borrow.Author.Needs.{needs}
+use Rattle.forecast.proofs.forecasting.judged.Statement.{statement}
+use Rattle.forecast.proofs.forecasting.judged.Tie as tie
+
+judged-shape-requires : tie.Need-judged-shape-requires
+judged-shape-requires c κs = search needs
+
+returns : tie.Need-returns
+returns c =
+    let j = c .before .before in
+    let s = j .before .before .before .before in
+    shape-stands (s .args .road) (s .args .cells .now) (s .args .upstream .now) (s .args .downstream .now) (s .args .horizon) (s .args .out)
+    (j .judged-shape .result) (j .judged-shape .ensures) (c .if1 .taken)
+
+first-above-requires : tie.Need-first-above-requires
+first-above-requires c κs = search needs
+
+first-above-requires-2 : tie.Need-first-above-requires-2
+first-above-requires-2 c κs = search needs
+
+first-above-requires-3 : tie.Need-first-above-requires-3
+first-above-requires-3 c κs = search needs
+
+-- past the first branch the shape is right, so that the lists are short
+short : (c : tie.After-first-above) → (length (c .before .before .before .before .before .before .before .args .cells .now) ≤ cellsCeiling) × ((length (c .before .before .before .before .before .before .before .args .upstream .now) ≤ horizonCeiling) × (length (c .before .before .before .before .before .before .before .args .downstream .now) ≤ horizonCeiling))
+short c =
+    let j = c .before .before .before in
+    let s = j .before .before .before .before in
+    shape-short (s .args .road) (s .args .cells .now) (s .args .upstream .now) (s .args .downstream .now) (s .args .horizon) (s .args .out)
+    (sym (ap (λ (f : Refusal). f .number) (j .judged-shape .ensures)) ∙ c .before .if1 .left)
+
+add-or-if : tie.Need-add-or-if
+add-or-if c =
+    let cell = c .before .before in
+    let s = cell .before .before .before .before .before .before .before in
+    let few = short cell .0 in
+    let within = first-bound (s .args .road .jam) (s .args .cells .now) in
+    omega (arith, cell .first-above .ensures)
+
+cast-or-if : tie.Need-cast-or-if
+cast-or-if c =
+    let cell = c .before .before in
+    let s = cell .before .before .before .before .before .before .before in
+    let few = short cell .0 in
+    let within = first-bound (s .args .road .jam) (s .args .cells .now) in
+    omega (arith, cell .first-above .ensures)
+
+or-if-requires : tie.Need-or-if-requires
+or-if-requires c κs = search needs
+
+cast-or-if-2 : tie.Need-cast-or-if-2
+cast-or-if-2 c =
+    let up = c .before .before in
+    let s = up .before .before .before .before .before .before .before .before in
+    let few = short (up .before) .1 .0 in
+    let within = first-bound (s .args .road .jam) (s .args .upstream .now) in
+    omega (arith, up .first-above2 .ensures)
+
+or-if-requires-2 : tie.Need-or-if-requires-2
+or-if-requires-2 c κs = search needs
+
+cast-or-if-3 : tie.Need-cast-or-if-3
+cast-or-if-3 c =
+    let down = c .before .before in
+    let s = down .before .before .before .before .before .before .before .before .before in
+    let few = short (down .before .before) .1 .1 in
+    let within = first-bound (s .args .road .jam) (s .args .downstream .now) in
+    omega (arith, down .first-above3 .ensures)
+
+or-if-requires-3 : tie.Need-or-if-requires-3
+or-if-requires-3 c κs = search needs
+
+returns-2 : tie.Need-returns-2
+unfolding shapeRefusal forecastRefusal
+returns-2 c =
+    let down = c .before .before .before in
+    let up = down .before in
+    let cell = up .before in
+    let s = cell .before .before .before .before .before .before .before in
+    c .or-if3 .ensures
+    ∙ next-row 11
+    (c .before .or-if2 .ensures
+    ∙ next-row 10
+    (c .before .before .or-if .ensures
+    ∙ next-row 9 (cell .before .before .before .judged-shape .ensures)
+    (ap (λ (k : ℕ). ltb k (length (s .args .cells .now))) (cell .first-above .ensures))
+    (ap (λ (k : ℕ). k + 1) (cell .first-above .ensures)))
+    (ap (λ (k : ℕ). ltb k (length (s .args .upstream .now))) (up .first-above2 .ensures))
+    (up .first-above2 .ensures))
+    (ap (λ (k : ℕ). ltb k (length (s .args .downstream .now))) (down .first-above3 .ensures))
+    (down .first-above3 .ensures)
+
+pub judged-spec : {M : Type 1} → statement M
+judged-spec =
+    tie.close
+    (tie.spec
+    judged-shape-requires
+    returns
+    first-above-requires
+    first-above-requires-2
+    first-above-requires-3
+    add-or-if
+    cast-or-if
+    or-if-requires
+    cast-or-if-2
+    or-if-requires-2
+    cast-or-if-3
+    or-if-requires-3
+    returns-2)

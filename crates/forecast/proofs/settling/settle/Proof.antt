@@ -1,0 +1,69 @@
+-- `forecast::settle` meets its contract: refused, nothing is written; otherwise the copy is settled.
+use mathlib.Core.Path.{_≡_, _∙_, sym, ap}
+use lib.ListN.{length}
+use Rattle.road.specs.declared.refusal.Refusal.{Refusal}
+use Rattle.forecast.specs.Settle.{settleRefusal, SettleChecked}
+use Rattle.forecast.proofs.Checked.{settle-checked-of}
+use Rattle.forecast.proofs.Answers.{settle-refused}
+use Rattle.forecast.proofs.Calling.{settle-asks, settle-gives}
+use borrow.Author.Needs.{needs}
+use Rattle.forecast.proofs.settling.settle.Statement.{statement}
+use Rattle.forecast.proofs.settling.settle.Tie as tie
+
+judged-requires : tie.Need-judged-requires
+judged-requires c κs = search needs
+
+returns : tie.Need-returns
+returns c =
+    let j = c .before .before in
+    let s = j .before .before .before in
+    settle-refused (s .args .road) (s .args .cells .now) (s .args .up) (s .args .down) (s .args .horizon) (s .args .out .now)
+    (j .judged .result) (j .judged .ensures) (c .if1 .taken)
+
+-- past the branch nothing is refused
+nothing : (c : tie.Else1) → let s = c .before .before .before .before .before in settleRefusal (s .args .road) (s .args .cells .now) (s .args .up) (s .args .down) (s .args .horizon) (length (s .args .out .now)) .number ≡ 0
+nothing c = sym (ap (λ (f : Refusal). f .number) (c .before .before .judged .ensures)) ∙ c .if1 .left
+
+checked : (c : tie.Else1) → let s = c .before .before .before .before .before in SettleChecked (s .args .road) (s .args .cells .now) (s .args .up) (s .args .down) (s .args .horizon) (length (s .args .out .now))
+checked c =
+    let s = c .before .before .before .before .before in
+    settle-checked-of (s .args .road) (s .args .cells .now) (s .args .up) (s .args .down) (s .args .horizon) (length (s .args .out .now)) (nothing c)
+
+copy-requires : tie.Need-copy-requires
+copy-requires c κs = checked (c .before) .output-long
+
+of-requires : tie.Need-of-requires
+of-requires c κs = checked (c .before .before .before .before) .accepted
+
+settle-requires : tie.Need-settle-requires
+settle-requires c κs =
+    let copied = c .before .before .before .before in
+    let go = copied .before .before in
+    let s = go .before .before .before .before .before in
+    settle-asks (s .args .road) (c .before .of .result) (c .before .of .ensures) (s .args .cells .now) (copied .copy .last .1 .0) (copied .copy .ensures)
+    (s .args .up) (s .args .down) (s .args .horizon) (length (s .args .out .now)) (checked go)
+
+same-length : tie.Need-same-length
+same-length c = search needs
+
+returns-2 : tie.Need-returns-2
+returns-2 c =
+    let ran = c .before .before in
+    let made = ran .before .before in
+    let copied = made .before .before .before in
+    let go = copied .before .before in
+    let s = go .before .before .before .before .before in
+    settle-gives (s .args .road) (made .of .result) (made .of .ensures) (s .args .cells .now) (copied .copy .last .1 .0) (copied .copy .ensures)
+    (s .args .up) (s .args .down) (s .args .horizon) (s .args .out .now) (nothing go) (ran .settle .last .1 .0) (ran .settle .result) (ran .settle .ensures)
+
+pub settle-spec : {M : Type 1} → statement M
+settle-spec =
+    tie.close
+    (tie.spec
+    judged-requires
+    returns
+    copy-requires
+    of-requires
+    settle-requires
+    same-length
+    returns-2)

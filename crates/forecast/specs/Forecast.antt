@@ -1,0 +1,124 @@
+-- The forecast: its rows of the refusal table, its answer, its output, and demand 3.
+use mathlib.Core.Path.{_≡_}
+use mathlib.Core.List.{List, [], _∷_, _++_}
+use Prim.Native.Nat.{ℕ, _+_, _-_, _*_, _^_, _≤_}
+use lib.Dec.{eqb}
+use lib.ListN.{length}
+use Rattle.road.specs.Choice.{pick}
+use Rattle.road.specs.Table.{Row, row, judge, refused, Lowest}
+use Rattle.road.specs.Ceilings.{cellsCeiling, horizonCeiling}
+use Rattle.road.specs.Judgement.{roadRows, Accepted}
+use Rattle.road.specs.declared.Road.{Road}
+use Rattle.road.specs.declared.refusal.Refusal.{Refusal}
+use Rattle.checks.specs.Lists.{badCells, badHorizon, badEnds, badOutput}
+use Rattle.checks.specs.Values.{firstAbove, anyAbove}
+use Rattle.scheme.specs.Sums.{sum, distance, times, Below}
+use Rattle.scheme.specs.Rounded.{roundRun, entered, left}
+use Rattle.scheme.specs.Exact.{exactRun}
+use Rattle.scheme.specs.declared.many_steps.Totals.{Totals}
+use Rattle.forecast.specs.Places.{Placed}
+use Rattle.forecast.specs.declared.forecasting.ForecastAnswer.{ForecastAnswer}
+use Rattle.forecast.specs.declared.forecasting.ForecastAnswer.the-variants.{Done, Refused}
+
+-- rows 5 to 8, over the numbers of cells, of upstream and downstream ends, and the output's length
+abbrev pub listRows : ℕ → ℕ → ℕ → ℕ → ℕ → List Row
+listRows cells ups downs t out =
+    row (badCells cells) 5 0 ∷ row (badHorizon t) 6 0 ∷ row (badEnds t ups downs) 7 0 ∷ row (badOutput cells out) 8 0 ∷ []
+
+-- rows 1 to 8
+abbrev pub shapeRows : Road → ℕ → ℕ → ℕ → ℕ → ℕ → List Row
+shapeRows r cells ups downs t out = roadRows r ++ listRows cells ups downs t out
+
+-- rows 9 to 11: the lowest cell, numbered from 1, and the first ends, from 0
+abbrev pub valueRows : Road → List ℕ → List ℕ → List ℕ → List Row
+valueRows r cells ups downs =
+    row (anyAbove (r .jam) cells) 9 (firstAbove (r .jam) cells + 1)
+    ∷ row (anyAbove (r .jam) ups) 10 (firstAbove (r .jam) ups)
+    ∷ row (anyAbove (r .jam) downs) 11 (firstAbove (r .jam) downs)
+    ∷ []
+
+unfoldable pub shapeRefusal : Road → ℕ → ℕ → ℕ → ℕ → ℕ → Refusal
+shapeRefusal r cells ups downs t out = judge (shapeRows r cells ups downs t out)
+
+-- "forecast 1–11"
+abbrev pub forecastRows : Road → List ℕ → List ℕ → List ℕ → ℕ → ℕ → List Row
+forecastRows r cells ups downs t out = shapeRows r (length cells) (length ups) (length downs) t out ++ valueRows r cells ups downs
+
+unfoldable pub forecastRefusal : Road → List ℕ → List ℕ → List ℕ → ℕ → ℕ → Refusal
+forecastRefusal r cells ups downs t out = judge (forecastRows r cells ups downs t out)
+
+-- the answer: Done with the units entered and left, or the refusal
+unfoldable pub forecastAnswer : Road → List ℕ → List ℕ → List ℕ → ℕ → ℕ → ForecastAnswer
+forecastAnswer r cells ups downs t out =
+    pick (eqb (forecastRefusal r cells ups downs t out .number) 0)
+    (Done (record { entered = entered r ups downs cells; left = left r ups downs cells }))
+    (Refused (forecastRefusal r cells ups downs t out))
+
+-- the output: the cells after the steps of the end lists, T of them, or its former contents
+unfoldable pub forecastCells : Road → List ℕ → List ℕ → List ℕ → ℕ → List ℕ → List ℕ
+forecastCells r cells ups downs t out =
+    pick (eqb (forecastRefusal r cells ups downs t (length out) .number) 0) (roundRun r ups downs cells) out
+
+-- the paper's numbers of an answer: number (0 when accepted), place, entered, left
+pub record Meaning : Type 0 where
+  pub number : ℕ
+  pub place : ℕ
+  pub entered : ℕ
+  pub left : ℕ
+
+abbrev pub meaning : ForecastAnswer → Meaning
+meaning (Done t) = record { number = 0; place = 0; entered = t .entered; left = t .left }
+meaning (Refused f) = record { number = f .number; place = f .place; entered = 0; left = 0 }
+
+-- the numbers that document 01 asks for: the table's number and place, and the sums of the steps where nothing is refused
+unfoldable pub forecastMeaning : Road → List ℕ → List ℕ → List ℕ → ℕ → ℕ → Meaning
+forecastMeaning r cells ups downs t out = record {
+  number = forecastRefusal r cells ups downs t out .number;
+  place = forecastRefusal r cells ups downs t out .place;
+  entered = pick (eqb (forecastRefusal r cells ups downs t out .number) 0) (entered r ups downs cells) 0;
+  left = pick (eqb (forecastRefusal r cells ups downs t out .number) 0) (left r ups downs cells) 0;
+}
+
+-- what an input that no row refuses is
+pub record Checked (r : Road) (cells ups downs : List ℕ) (t out : ℕ) : Type 0 where
+  pub accepted : Accepted r
+  pub cells-low : 1 ≤ length cells
+  pub cells-high : length cells ≤ cellsCeiling
+  pub horizon-high : t ≤ horizonCeiling
+  pub ups-long : length ups ≡ t
+  pub downs-long : length downs ≡ t
+  pub output-long : out ≡ length cells
+  pub cells-below : Below (r .jam) cells
+  pub ups-below : Below (r .jam) ups
+  pub downs-below : Below (r .jam) downs
+
+-- demand 1 of a refusal (number 0 for none): the lowest number that applies, at the place that the table says; none exactly where the input is checked
+pub record Judged (r : Road) (cells ups downs : List ℕ) (t out : ℕ) (f : Refusal) : Type 0 where
+  pub lowest : Lowest (forecastRows r cells ups downs t out) f
+  pub placed : Placed r cells ups downs f
+  pub accepted : f .number ≡ 0 → Checked r cells ups downs t out
+  pub no-other : Checked r cells ups downs t out → f .number ≡ 0
+
+-- demand 3 of the commission, of what the output holds at exit with the answer's entered and left, on n cells and T steps
+pub record Demand3 (r : Road) (cells ups downs : List ℕ) (t : ℕ) (next : List ℕ) (in-sum out-sum : ℕ) : Type 0 where
+  -- the densities after document 01's T steps, one for each pair of ends
+  pub ups-long : length ups ≡ t
+  pub downs-long : length downs ≡ t
+  pub after-steps : next ≡ roundRun r ups downs cells
+  -- n of them, and as many exact ones
+  pub long : length next ≡ length cells
+  pub exact-long : length (exactRun r 1 ups downs cells) ≡ length cells
+  -- every density from 0 to jam
+  pub within : Below (r .jam) next
+  -- units at the start plus entered equal units at the end plus left
+  pub balanced : sum cells + in-sum ≡ sum next + out-sum
+  -- D times the summed distance from the exact scheme, at scale D to the power T, is at most n × T × (D − 1) at that scale
+  pub near : r .divisor * distance (times (r .divisor ^ t) next) (exactRun r 1 ups downs cells) ≤ length cells * t * (r .divisor - 1) * r .divisor ^ t
+
+-- what the call promises: a the answer, out what the output held at entry, next what it holds at exit
+pub record Forecasts (r : Road) (cells ups downs : List ℕ) (t : ℕ) (out next : List ℕ) (a : ForecastAnswer) : Type 0 where
+  pub answer : a ≡ forecastAnswer r cells ups downs t (length out)
+  pub means : meaning a ≡ forecastMeaning r cells ups downs t (length out)
+  pub output : next ≡ forecastCells r cells ups downs t out
+  pub judged : Judged r cells ups downs t (length out) (refused (meaning a .number) (meaning a .place))
+  pub demand3 : (d : Totals) → a ≡ Done d → Demand3 r cells ups downs t next (d .entered) (d .left)

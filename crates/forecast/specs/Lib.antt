@@ -1,0 +1,4 @@
+pub mod Places
+pub mod Forecast
+pub mod Settle
+pub mod Chain

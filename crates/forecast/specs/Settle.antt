@@ -1,0 +1,104 @@
+-- The settling run: its rows of the refusal table, its answer and its output.
+use mathlib.Core.Path.{_≡_}
+use mathlib.Core.Bool.{Bool, false}
+use mathlib.Core.List.{List, [], _∷_, _++_}
+use Prim.Native.Nat.{ℕ, _≤_}
+use lib.Dec.{eqb}
+use lib.ListN.{length}
+use Rattle.road.specs.Choice.{pick}
+use Rattle.road.specs.Table.{Row, row, judge, refused, Lowest}
+use Rattle.road.specs.Ceilings.{cellsCeiling, horizonCeiling}
+use Rattle.road.specs.Judgement.{roadRows, Accepted}
+use Rattle.road.specs.declared.Road.{Road}
+use Rattle.road.specs.declared.refusal.Refusal.{Refusal}
+use Rattle.checks.specs.Lists.{badCells, badHorizon, badOutput}
+use Rattle.checks.specs.Values.{pairRows}
+use Rattle.scheme.specs.Sums.{Below}
+use Rattle.scheme.specs.Settling.{after, settles, settleSteps, settleCells, LeastStill}
+use Rattle.scheme.specs.declared.settling.Settled.{Settled}
+use Rattle.forecast.specs.Places.{Placed}
+use Rattle.forecast.specs.declared.settling.SettleAnswer.{SettleAnswer}
+use Rattle.forecast.specs.declared.settling.SettleAnswer.the-variants.{Done, Refused}
+
+-- rows 5, 6 and 8
+abbrev pub settleListRows : ℕ → ℕ → ℕ → List Row
+settleListRows cells t out = row (badCells cells) 5 0 ∷ row (badHorizon t) 6 0 ∷ row (badOutput cells out) 8 0 ∷ []
+
+-- rows 1 to 6 and 8
+abbrev pub settleShapeRows : Road → ℕ → ℕ → ℕ → List Row
+settleShapeRows r cells t out = roadRows r ++ settleListRows cells t out
+
+unfoldable pub settleShapeRefusal : Road → ℕ → ℕ → ℕ → Refusal
+settleShapeRefusal r cells t out = judge (settleShapeRows r cells t out)
+
+-- "settling 1–6 and 8–11"
+abbrev pub settleRows : Road → List ℕ → ℕ → ℕ → ℕ → ℕ → List Row
+settleRows r cells up down t out = settleShapeRows r (length cells) t out ++ pairRows r cells up down
+
+unfoldable pub settleRefusal : Road → List ℕ → ℕ → ℕ → ℕ → ℕ → Refusal
+settleRefusal r cells up down t out = judge (settleRows r cells up down t out)
+
+-- the answer: settled or unsettled with the steps made, or the refusal
+unfoldable pub settleAnswer : Road → List ℕ → ℕ → ℕ → ℕ → ℕ → SettleAnswer
+settleAnswer r cells up down t out =
+    pick (eqb (settleRefusal r cells up down t out .number) 0)
+    (Done (record { settled = settles r up down t cells; steps = settleSteps r up down t cells }))
+    (Refused (settleRefusal r cells up down t out))
+
+-- the output: the state after those steps, or its former contents
+unfoldable pub settleOutput : Road → List ℕ → ℕ → ℕ → ℕ → List ℕ → List ℕ
+settleOutput r cells up down t out =
+    pick (eqb (settleRefusal r cells up down t (length out) .number) 0) (settleCells r up down t cells) out
+
+-- the paper's numbers of an answer: number (0 when accepted), place, settled or not, steps
+pub record Meaning : Type 0 where
+  pub number : ℕ
+  pub place : ℕ
+  pub settled : Bool
+  pub steps : ℕ
+
+abbrev pub meaning : SettleAnswer → Meaning
+meaning (Done s) = record { number = 0; place = 0; settled = s .settled; steps = s .steps }
+meaning (Refused f) = record { number = f .number; place = f .place; settled = false; steps = 0 }
+
+-- the numbers that document 01 asks for
+unfoldable pub settleMeaning : Road → List ℕ → ℕ → ℕ → ℕ → ℕ → Meaning
+settleMeaning r cells up down t out = record {
+  number = settleRefusal r cells up down t out .number;
+  place = settleRefusal r cells up down t out .place;
+  settled = pick (eqb (settleRefusal r cells up down t out .number) 0) (settles r up down t cells) false;
+  steps = pick (eqb (settleRefusal r cells up down t out .number) 0) (settleSteps r up down t cells) 0;
+}
+
+-- what an input that no row refuses is
+pub record SettleChecked (r : Road) (cells : List ℕ) (up down t out : ℕ) : Type 0 where
+  pub accepted : Accepted r
+  pub cells-low : 1 ≤ length cells
+  pub cells-high : length cells ≤ cellsCeiling
+  pub horizon-high : t ≤ horizonCeiling
+  pub output-long : out ≡ length cells
+  pub cells-below : Below (r .jam) cells
+  pub up-below : up ≤ r .jam
+  pub down-below : down ≤ r .jam
+
+-- demand 1 of a refusal (number 0 for none), of the settling run's rows; the one end pair stands at place 0
+pub record SettleJudged (r : Road) (cells : List ℕ) (up down t out : ℕ) (f : Refusal) : Type 0 where
+  pub lowest : Lowest (settleRows r cells up down t out) f
+  pub placed : Placed r cells (up ∷ []) (down ∷ []) f
+  pub accepted : f .number ≡ 0 → SettleChecked r cells up down t out
+  pub no-other : SettleChecked r cells up down t out → f .number ≡ 0
+
+-- what an accepted run reports and hands back: the least k below T such that step k+1 is still, or T; the state after those steps, in range
+pub record Settlement (r : Road) (cells : List ℕ) (up down t : ℕ) (next : List ℕ) (s : Settled) : Type 0 where
+  pub least : LeastStill r up down t cells (s .settled) (s .steps)
+  pub state : next ≡ after r up down (s .steps) cells
+  pub long : length next ≡ length cells
+  pub within : Below (r .jam) next
+
+-- what the call promises: a the answer, out what the output held at entry, next what it holds at exit
+pub record Settles (r : Road) (cells : List ℕ) (up down t : ℕ) (out next : List ℕ) (a : SettleAnswer) : Type 0 where
+  pub answer : a ≡ settleAnswer r cells up down t (length out)
+  pub means : meaning a ≡ settleMeaning r cells up down t (length out)
+  pub output : next ≡ settleOutput r cells up down t out
+  pub judged : SettleJudged r cells up down t (length out) (refused (meaning a .number) (meaning a .place))
+  pub settlement : (s : Settled) → a ≡ Done s → Settlement r cells up down t next s

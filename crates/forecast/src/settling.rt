@@ -1,0 +1,64 @@
+// The settling run: whether the road settles with one end pair, and the state it settles to.
+ghost use mathlib.Core.Path.{_≡_};
+ghost use Rattle.forecast.specs.Settle.{settleShapeRefusal, settleRefusal, Settles};
+use super::copying::copy;
+use flux::Pace;
+use road::Refusal;
+use road::Road;
+use scheme::Settled;
+
+// What a settling run answers: settled or not with the steps made, or the refusal.
+pub enum SettleAnswer {
+    Done(Settled),
+    Refused(Refusal),
+}
+
+// Internal: rows 1 to 6 and 8, of the road and of the lists' lengths.
+fn judged_shape(road: Road, cells: usize, horizon: u32, out: usize) -> Refusal
+    ensures { λ f. ⌜ f ≡ settleShapeRefusal road cells horizon out ⌝ }
+{
+    let bad_cells = checks::bad_cells(cells);
+    let bad_horizon = checks::bad_horizon(horizon);
+    let bad_output = checks::bad_output(cells, out);
+    road::judged(road)
+        .or_if(bad_cells, 5, 0)
+        .or_if(bad_horizon, 6, 0)
+        .or_if(bad_output, 8, 0)
+}
+
+// Internal: the settling run's refusal, or none.
+fn judged(road: Road, cells: &[u32], up: u32, down: u32, horizon: u32, out: usize) -> Refusal
+    ensures { λ f. ⌜ f ≡ settleRefusal road (now (cells .entry)) up down horizon out ⌝ }
+{
+    let shape = judged_shape(road, cells.len(), horizon, out);
+    if shape.number != 0 {
+        return shape;
+    }
+    let cell = checks::first_above(road.jam, cells);
+    let up_high = checks::is_above(road.jam, up);
+    let down_high = checks::is_above(road.jam, down);
+    shape
+        .or_if(cell < cells.len(), 9, (cell + 1) as u32)
+        .or_if(up_high, 10, 0)
+        .or_if(down_high, 11, 0)
+}
+
+// Settled, with the least k below the horizon such that step k+1 is still, and the output holds the state after k steps;
+// or unsettled, with the horizon, and the output holds the state after all of them. Refused, it keeps what it held.
+pub fn settle(
+    road: Road,
+    cells: &[u32],
+    up: u32,
+    down: u32,
+    horizon: u32,
+    out: &mut [u32],
+) -> SettleAnswer
+    ensures { λ a. ⌜ Settles road (now (cells .entry)) up down horizon (now (out .entry)) (now (out .exit)) a ⌝ }
+{
+    let refusal = judged(road, cells, up, down, horizon, out.len());
+    if refusal.number != 0 {
+        return SettleAnswer::Refused(refusal);
+    }
+    copy(cells, out);
+    SettleAnswer::Done(scheme::settle(Pace::of(road), out, up, down, horizon))
+}

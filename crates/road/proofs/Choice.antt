@@ -1,0 +1,30 @@
+-- Tests joined: what a joined test that fails says of its parts, and a number in its range.
+use mathlib.Core.Path.{_≡_, refl}
+use mathlib.Core.Bool.{Bool, true, false, true≢false}
+use Prim.Native.Nat.{ℕ, _≤_}
+use lib.Dec.{ltb}
+use borrow.Author.Tests.{ltb-false, le-ltb}
+use Rattle.road.specs.Choice.{or}
+use Rattle.road.specs.Judgement.{outside}
+
+-- two tests of which neither holds
+pub or-left : (a b : Bool) → or a b ≡ false → a ≡ false
+or-left true b e = e
+or-left false b e = refl
+
+pub or-right : (a b : Bool) → or a b ≡ false → b ≡ false
+or-right true b e = absurd (true≢false e)
+or-right false b e = e
+
+pub neither : (a b : Bool) → a ≡ false → b ≡ false → or a b ≡ false
+neither a b p q = simp (p, q)
+
+-- a number that is not outside its range
+pub from-low : (low high x : ℕ) → outside low high x ≡ false → low ≤ x
+from-low low high x e = ltb-false x low (or-left (ltb x low) (ltb high x) e)
+
+pub to-high : (low high x : ℕ) → outside low high x ≡ false → x ≤ high
+to-high low high x e = ltb-false high x (or-right (ltb x low) (ltb high x) e)
+
+pub inside : (low high x : ℕ) → low ≤ x → x ≤ high → outside low high x ≡ false
+inside low high x l h = neither (ltb x low) (ltb high x) (le-ltb x low l) (le-ltb high x h)

@@ -1,0 +1,15 @@
+// Lists of one density, as long as the ceilings and one beyond.
+ghost use mathlib.Core.Path.{_≡_};
+ghost use lib.ListN.{length};
+
+pub fn cells(density: u32) -> [u32; 257]
+    ensures { λ r. ⌜ 257 ≡ length r ⌝ }
+{
+    [density; 257]
+}
+
+pub fn ends(density: u32) -> [u32; 4097]
+    ensures { λ r. ⌜ 4097 ≡ length r ⌝ }
+{
+    [density; 4097]
+}

@@ -1,0 +1,101 @@
+-- Faces one by one: face k lies between cells k and k+1, the ghost cells standing at 0 and n+1.
+use mathlib.Core.Path.{_≡_, _∙_, refl, sym, ap, ap₂}
+use mathlib.Core.Bool.{Bool, true, false, false≢true}
+use mathlib.Core.Logic.{_↔_}
+use mathlib.Core.List.{List, [], _∷_}
+use Prim.Native.Nat.{ℕ, zero, suc, _+_, _≤_}
+use native.Mathlib.Nat.{le-of-suc-le-suc, not-suc-le-zero, add-zero, zero-add, add-suc, suc-add}
+use lib.Dec.{eqb}
+use lib.ListN.{length, getD}
+use borrow.Author.Tests.{eqb-true, eq-eqb}
+use Rattle.road.specs.Choice.{both}
+use Rattle.road.specs.declared.Road.{Road}
+use Rattle.flux.specs.Face.{letter}
+use Rattle.scheme.specs.Advance.{ahead, outflow, flows, entering, leaving, padded, faceFlows}
+use Rattle.scheme.specs.Sums.{sum}
+use Rattle.scheme.specs.Word.{wordOf}
+use Rattle.scheme.specs.Rounded.{roundStep}
+use Rattle.scheme.specs.Settling.{sameWord, still}
+
+-- a word is n+1 letters, and letter k is that of face k
+pub word-length : (r : Road) (up down : ℕ) (xs : List ℕ) → length (wordOf r up down xs) ≡ suc (length xs)
+unfolding wordOf
+word-length r up down [] = refl
+word-length r up down (x ∷ xs) = ap suc (word-length r x down xs)
+
+pub word-letter : (r : Road) (up down : ℕ) (xs : List ℕ) (k : ℕ) → k ≤ length xs
+    → getD (wordOf r up down xs) k 0 ≡ letter r (getD (padded up down xs) k 0) (getD (padded up down xs) (suc k) 0)
+unfolding wordOf padded
+word-letter r up down [] zero h = refl
+word-letter r up down [] (suc k) h = absurd (not-suc-le-zero h)
+word-letter r up down (x ∷ xs) zero h = refl
+word-letter r up down (x ∷ xs) (suc k) h = word-letter r x down xs k (le-of-suc-le-suc h)
+
+module _ (F : ℕ → ℕ → ℕ → ℕ) where
+  -- along the list, l being the density to its left
+  flow-from : (i l d : ℕ) (xs : List ℕ) (k : ℕ) → k ≤ length xs
+      → getD (flows F (suc i) (F i l (ahead d xs)) d xs) k 0 ≡ F (i + k) (getD (padded l d xs) k 0) (getD (padded l d xs) (suc k) 0)
+  unfolding flows padded ahead
+  flow-from i l d [] zero h = ap (λ (n : ℕ). F n l d) (sym (add-zero i))
+  flow-from i l d [] (suc k) h = absurd (not-suc-le-zero h)
+  flow-from i l d (x ∷ xs) zero h = ap (λ (n : ℕ). F n l x) (sym (add-zero i))
+  flow-from i l d (x ∷ xs) (suc k) h =
+      flow-from (suc i) x d xs k (le-of-suc-le-suc h)
+      ∙ ap (λ (n : ℕ). F n (getD (padded x d xs) k 0) (getD (padded x d xs) (suc k) 0)) (suc-add i k ∙ sym (add-suc i k))
+
+  -- flow k is the flow of face k, all worked from the old densities
+  pub flow-at : (up down : ℕ) (xs : List ℕ) (k : ℕ) → k ≤ length xs
+      → getD (faceFlows F up down xs) k 0 ≡ F k (getD (padded up down xs) k 0) (getD (padded up down xs) (suc k) 0)
+  unfolding faceFlows entering
+  flow-at up down xs k h =
+      flow-from 0 up down xs k h ∙ ap (λ (n : ℕ). F n (getD (padded up down xs) k 0) (getD (padded up down xs) (suc k) 0)) (zero-add k)
+
+  last-from : (i w d : ℕ) (xs : List ℕ) → outflow F i w d xs ≡ getD (flows F i w d xs) (length xs) 0
+  unfolding outflow flows
+  last-from i w d [] = refl
+  last-from i w d (x ∷ xs) = last-from (suc i) (F i x (ahead d xs)) d xs
+
+  -- what enters is the flow over face 0, what leaves that over face n
+  pub enters-first : (up down : ℕ) (xs : List ℕ) → entering F up down xs ≡ getD (faceFlows F up down xs) 0 0
+  unfolding faceFlows flows
+  enters-first up down [] = refl
+  enters-first up down (x ∷ xs) = refl
+
+  pub leaves-last : (up down : ℕ) (xs : List ℕ) → leaving F up down xs ≡ getD (faceFlows F up down xs) (length xs) 0
+  unfolding faceFlows leaving
+  leaves-last up down xs = last-from 1 (entering F up down xs) down xs
+
+both-first : (a b : Bool) → both a b ≡ true → a ≡ true
+both-first true b e = refl
+both-first false b e = absurd (false≢true e)
+
+both-second : (a b : Bool) → both a b ≡ true → b ≡ true
+both-second true b e = e
+both-second false b e = absurd (false≢true e)
+
+-- two words that a test finds the same are the same
+same-words : (ss ts : List ℕ) → sameWord ss ts ≡ true → ss ≡ ts
+unfolding sameWord
+same-words [] [] e = refl
+same-words [] (t ∷ ts) e = absurd (false≢true e)
+same-words (s ∷ ss) [] e = absurd (false≢true e)
+same-words (s ∷ ss) (t ∷ ts) e = ap₂ _∷_ (eqb-true s t (both-first (eqb s t) (sameWord ss ts) e)) (same-words ss ts (both-second (eqb s t) (sameWord ss ts) e))
+
+words-same : (ss : List ℕ) → sameWord ss ss ≡ true
+unfolding sameWord
+words-same [] = refl
+words-same (s ∷ ss) = rw (eq-eqb s s refl) (words-same ss)
+
+-- a step is still exactly when it keeps the letter at every face and the sum of the cells
+pub still-means : (r : Road) (up down : ℕ) (xs : List ℕ)
+    → (still r up down xs ≡ true) ↔ ((wordOf r up down (roundStep r up down xs) ≡ wordOf r up down xs) × (sum (roundStep r up down xs) ≡ sum xs))
+unfolding still
+still-means r up down xs = (
+  λ e.
+      let words = sameWord (wordOf r up down xs) (wordOf r up down (roundStep r up down xs)) in
+      let sums = eqb (sum xs) (sum (roundStep r up down xs)) in (
+        sym (same-words (wordOf r up down xs) (wordOf r up down (roundStep r up down xs)) (both-first words sums e)),
+        sym (eqb-true (sum xs) (sum (roundStep r up down xs)) (both-second words sums e)),
+      ),
+  λ p. rw (p .0, p .1, words-same (wordOf r up down xs)) (eq-eqb (sum xs) (sum xs) refl),
+)

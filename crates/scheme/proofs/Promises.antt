@@ -1,0 +1,100 @@
+-- What every run on an accepted road keeps, with nothing left to assume: the theorems that the levels above cite.
+use mathlib.Core.Path.{_≡_, _∙_, refl}
+use mathlib.Core.List.{List}
+use Prim.Native.Nat.{ℕ, zero, suc, _+_, _-_, _*_, _^_, _≤_, _<_}
+use native.Mathlib.Omega.{arith}
+use lib.ListN.{length, getD}
+use Rattle.road.specs.Judgement.{Accepted}
+use Rattle.road.specs.declared.Road.{Road}
+use Rattle.scheme.specs.Advance.{faceFlows}
+use Rattle.scheme.specs.Sums.{sum, gap, distance, times, Below, NoMore}
+use Rattle.scheme.specs.Rounded.{moved, roundStep, roundRun, entered, left}
+use Rattle.scheme.specs.Exact.{exactFlow, exactStep, exactRun}
+use Rattle.scheme.specs.Settling.{after, settleSteps, settleCells}
+use Rattle.scheme.proofs.Laws.{round-laws, exact-laws, spread, homog}
+use Rattle.scheme.proofs.Range.{stepped-cell}
+use Rattle.scheme.proofs.Runs.{roundStep-length, roundStep-below, roundRun-below, roundRun-balance, roundRun-monotone, roundRun-contraction, exactRun-below}
+use Rattle.scheme.proofs.Lists.{pairs-at}
+use Rattle.scheme.proofs.Scaling.{exactStep-times, exactRun-times}
+use Rattle.scheme.proofs.Distance.{step-near, step-rounding, run-rounding}
+
+module _ (r : Road) (ok : Accepted r) where
+  -- new + out equals old + in at each cell of the rounded step, and D × old + in at each cell of the exact one: no subtraction is cut off at 0
+  pub round-cell : (u d : ℕ) (xs : List ℕ) (k : ℕ) → k < length xs
+      → getD (roundStep r u d xs) k 0 + getD (faceFlows (moved r) u d xs) (suc k) 0
+      ≡ 1 * getD xs k 0 + getD (faceFlows (moved r) u d xs) k 0
+  unfolding roundStep faceFlows
+  round-cell u d xs k h = stepped-cell 1 (r .jam) (r .critical) (moved r) (round-laws r ok) u d xs k h
+
+  pub exact-cell : (z u d : ℕ) (xs : List ℕ) (k : ℕ) → k < length xs
+      → getD (exactStep r z u d xs) k 0 + getD (faceFlows (exactFlow r z) (z * u) (z * d) xs) (suc k) 0
+      ≡ r .divisor * getD xs k 0 + getD (faceFlows (exactFlow r z) (z * u) (z * d) xs) k 0
+  unfolding exactStep faceFlows
+  exact-cell z u d xs k h = stepped-cell (r .divisor) (z * r .jam) (z * r .critical) (exactFlow r z) (exact-laws r ok z) (z * u) (z * d) xs k h
+
+  -- every density stays from 0 to jam, in the exact scheme from 0 to Z × jam
+  pub round-range : (ups downs xs : List ℕ) → Below (r .jam) xs → Below (r .jam) (roundRun r ups downs xs)
+  round-range = roundRun-below r (round-laws r ok)
+
+  pub exact-range : (z : ℕ) (ups downs xs : List ℕ) → length ups ≡ length downs → Below (z * r .jam) xs
+      → Below (r .divisor ^ length ups * (z * r .jam)) (exactRun r z ups downs xs)
+  exact-range = exactRun-below r (exact-laws r ok)
+
+  -- units at the start plus entered equal units at the end plus left
+  pub round-balance : (ups downs xs : List ℕ) → sum xs + entered r ups downs xs ≡ sum (roundRun r ups downs xs) + left r ups downs xs
+  round-balance = roundRun-balance r (round-laws r ok)
+
+  -- start and ends nowhere higher give densities nowhere higher
+  pub round-monotone : {ups ups′ downs downs′ xs ys : List ℕ} → NoMore ups ups′ → NoMore downs downs′ → NoMore xs ys
+      → NoMore (roundRun r ups downs xs) (roundRun r ups′ downs′ ys)
+  round-monotone = roundRun-monotone r (round-laws r ok)
+
+  -- with equal ends two runs come no further apart
+  pub round-contraction : (ups downs xs ys : List ℕ) → length xs ≡ length ys
+      → distance (roundRun r ups downs xs) (roundRun r ups downs ys) ≤ distance xs ys
+  round-contraction = roundRun-contraction r (round-laws r ok)
+
+  -- D × a rounded new cell differs from the exact step of the same state by less than D
+  pub round-near-cell : (u d : ℕ) (xs : List ℕ) (k : ℕ)
+      → gap (r .divisor * getD (roundStep r u d xs) k 0) (getD (exactStep r 1 u d xs) k 0) < r .divisor
+  unfolding gap
+  round-near-cell u d xs k =
+      let low = ok .divisor-low in
+      omega (arith, pairs-at (omega arith) (step-near r (round-laws r ok) (exact-laws r ok) (homog r) (spread r ok) u d xs) k)
+
+  -- summed over the cells, D × the rounded new cells differ from the exact step of the same state by at most n × (D − 1)
+  pub round-near-step : (u d : ℕ) (xs : List ℕ)
+      → distance (times (r .divisor) (roundStep r u d xs)) (exactStep r 1 u d xs) ≤ length xs * (r .divisor - 1)
+  round-near-step = step-rounding r (round-laws r ok) (exact-laws r ok) (homog r) (spread r ok)
+
+  -- D times the summed distance from the exact scheme, at scale D to the power T, is at most n × T × (D − 1) at that scale
+  pub round-near : (ups downs xs : List ℕ) → length ups ≡ length downs
+      → r .divisor * distance (times (r .divisor ^ length ups) (roundRun r ups downs xs)) (exactRun r 1 ups downs xs)
+      ≤ length xs * length ups * (r .divisor - 1) * r .divisor ^ length ups
+  round-near = run-rounding r (round-laws r ok) (exact-laws r ok) (homog r) (spread r ok)
+
+  -- a settling run keeps the range, and below the number of cells
+  after-range : (up down k : ℕ) (xs : List ℕ) → Below (r .jam) xs → Below (r .jam) (after r up down k xs)
+  unfolding after
+  after-range up down zero xs h = h
+  after-range up down (suc k) xs h = after-range up down k (roundStep r up down xs) (roundStep-below r (round-laws r ok) up down xs h)
+
+  pub settle-range : (up down t : ℕ) (xs : List ℕ) → Below (r .jam) xs → Below (r .jam) (settleCells r up down t xs)
+  unfolding settleCells
+  settle-range up down t xs h = after-range up down (settleSteps r up down t xs) xs h
+
+after-length : (r : Road) (up down k : ℕ) (xs : List ℕ) → length (after r up down k xs) ≡ length xs
+unfolding after
+after-length r up down zero xs = refl
+after-length r up down (suc k) xs = after-length r up down k (roundStep r up down xs) ∙ roundStep-length r up down xs
+
+pub settle-length : (r : Road) (up down t : ℕ) (xs : List ℕ) → length (settleCells r up down t xs) ≡ length xs
+unfolding settleCells
+settle-length r up down t xs = after-length r up down (settleSteps r up down t xs) xs
+
+-- the scale does not matter: k times the densities, at k times the scale, give k times the result, so that the whole-number form is document 01's fractions times Z
+pub exact-scale : (r : Road) (k z u d : ℕ) (xs : List ℕ) → exactStep r (k * z) u d (times k xs) ≡ times k (exactStep r z u d xs)
+exact-scale r = exactStep-times r (homog r)
+
+pub exact-run-scale : (r : Road) (k z : ℕ) (ups downs xs : List ℕ) → exactRun r (k * z) ups downs (times k xs) ≡ times k (exactRun r z ups downs xs)
+exact-run-scale r = exactRun-times r (homog r)

@@ -1,0 +1,106 @@
+// The settling run: one end pair for all steps, up to the first still step.
+ghost use mathlib.Core.Path.{_≡_};
+ghost use Prim.Native.Nat.{_≤_, _<_};
+ghost use lib.Dec.{eqb};
+ghost use lib.ListN.{length, drop};
+ghost use Rattle.road.specs.Choice.{both};
+ghost use Rattle.road.specs.Judgement.{Accepted};
+ghost use Rattle.flux.specs.Face.{letter};
+ghost use Rattle.scheme.specs.Advance.{ahead};
+ghost use Rattle.scheme.specs.Sums.{Below};
+ghost use Rattle.scheme.specs.Settling.{still};
+ghost use Rattle.scheme.specs.Calls.{Ready, SettledTo};
+use super::one_step::step;
+use flux::Pace;
+use road::Road;
+
+// Whether a run settled, and the number of steps that it made.
+pub struct Settled {
+    pub settled: bool,
+    pub steps: u32,
+}
+
+// Internal: both tests.
+pub fn all(a: bool, b: bool) -> bool
+    ensures { λ r. ⌜ r ≡ both a b ⌝ }
+{
+    if a { b } else { false }
+}
+
+// Internal: the density at i, or the ghost cell's past the last.
+fn density_at(x: &[u32], i: usize, down: u32) -> u32
+    ensures { λ r. ⌜ r ≡ ahead down (drop i (now (x .entry))) ⌝ }
+{
+    if i < x.len() { x[i] } else { down }
+}
+
+// Internal: whether a face keeps its letter when its densities go from a, b to c, d.
+fn keeps_letter(r: Road, a: u32, b: u32, c: u32, d: u32) -> bool
+    requires { ⌜ Accepted r ⌝ }
+    requires { ⌜ a ≤ r .jam ⌝ }
+    requires { ⌜ b ≤ r .jam ⌝ }
+    requires { ⌜ c ≤ r .jam ⌝ }
+    requires { ⌜ d ≤ r .jam ⌝ }
+    ensures { λ s. ⌜ s ≡ eqb (letter r a b) (letter r c d) ⌝ }
+{
+    flux::letter(r, a, b) == flux::letter(r, c, d)
+}
+
+// Internal: whether the next step would be still. Works the new densities as the step does, without writing them: the
+// sum of the cells is kept exactly when as much leaves as enters.
+fn is_still(pace: Pace, x: &[u32], up: u32, down: u32) -> bool
+    requires { ⌜ Ready pace ⌝ }
+    requires { ⌜ 0 < length (now x) ⌝ }
+    requires { ⌜ Below (pace .road .jam) (now x) ⌝ }
+    requires { ⌜ up ≤ pace .road .jam ⌝ }
+    requires { ⌜ down ≤ pace .road .jam ⌝ }
+    ensures { λ s. ⌜ s ≡ still (pace .road) up down (now (x .entry)) ⌝ }
+{
+    let first = pace.flow(up, x[0]);
+    let mut same = true;
+    let mut old_left = up;
+    let mut new_left = up;
+    let mut inflow = first;
+    let mut i = 0;
+    while i < x.len() {
+        let own = x[i];
+        let out = pace.flow(own, density_at(x, i + 1, down));
+        let new = own + inflow - out;
+        same = all(same, keeps_letter(pace.road, old_left, own, new_left, new));
+        old_left = own;
+        new_left = new;
+        inflow = out;
+        i += 1;
+    }
+    let letters = all(
+        same,
+        keeps_letter(pace.road, old_left, down, new_left, down),
+    );
+    all(letters, first == inflow)
+}
+
+// Internal: the list then holds the state that the settling run hands back.
+pub fn settle(pace: Pace, cells: &mut [u32], up: u32, down: u32, horizon: u32) -> Settled
+    requires { ⌜ Ready pace ⌝ }
+    requires { ⌜ 0 < length (now cells) ⌝ }
+    requires { ⌜ Below (pace .road .jam) (now cells) ⌝ }
+    requires { ⌜ up ≤ pace .road .jam ⌝ }
+    requires { ⌜ down ≤ pace .road .jam ⌝ }
+    ensures { λ s. ⌜ SettledTo (pace .road) up down horizon (now (cells .entry)) (now (cells .exit)) s ⌝ }
+{
+    let mut steps = 0;
+    while steps < horizon {
+        if is_still(pace, cells, up, down) {
+            return Settled {
+                settled: true,
+                steps,
+            };
+        }
+        step(pace, cells, up, down);
+        steps += 1;
+    }
+    Settled {
+        settled: false,
+        steps: horizon,
+    }
+}

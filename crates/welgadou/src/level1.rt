@@ -1,0 +1,95 @@
+// Level 1 for C: forecast and settling run.
+ghost use mathlib.Core.Path.{_≡_};
+ghost use Rattle.welgadou.specs.Level1.{Forecasted, SettledRun, flagOf};
+use forecast::ForecastAnswer;
+use forecast::SettleAnswer;
+use road::Road;
+
+// 0, with the cells after the horizon's steps in `out`, the units in `entered` and `left` and 0 in `place`; or the
+// refusal's number with its place, and nothing else written.
+#[no_mangle]
+pub extern "C" fn welgadou_forecast(
+    divisor: u32,
+    free: u32,
+    wave: u32,
+    jam: u32,
+    critical: u32,
+    cells: &[u32],
+    upstream: &[u32],
+    downstream: &[u32],
+    horizon: u32,
+    out: &mut [u32],
+    entered: &mut u64,
+    left: &mut u64,
+    place: &mut u32,
+) -> u32
+    ensures { λ n. ⌜ Forecasted (record { divisor = divisor; free = free; wave = wave; jam = jam; critical = critical }) (now (cells .entry)) (now (upstream .entry)) (now (downstream .entry)) horizon (now (out .entry)) (now (out .exit)) (now (entered .entry)) (now (entered .exit)) (now (left .entry)) (now (left .exit)) (now (place .exit)) n ⌝ }
+{
+    let road = Road {
+        divisor,
+        free,
+        wave,
+        jam,
+        critical,
+    };
+    match forecast::forecast(road, cells, upstream, downstream, horizon, out) {
+        ForecastAnswer::Done(t) => {
+            *entered = t.entered;
+            *left = t.left;
+            *place = 0;
+            0
+        }
+        ForecastAnswer::Refused(f) => {
+            *place = f.place;
+            f.number
+        }
+    }
+}
+
+// 0, with the state in `out`, 1 in `settled` where the run settled and 0 where not, the steps made in `steps` and 0 in
+// `place`; or the refusal's number with its place, and nothing else written.
+#[no_mangle]
+pub extern "C" fn welgadou_settle(
+    divisor: u32,
+    free: u32,
+    wave: u32,
+    jam: u32,
+    critical: u32,
+    cells: &[u32],
+    upstream: u32,
+    downstream: u32,
+    horizon: u32,
+    out: &mut [u32],
+    settled: &mut u32,
+    steps: &mut u32,
+    place: &mut u32,
+) -> u32
+    ensures { λ n. ⌜ SettledRun (record { divisor = divisor; free = free; wave = wave; jam = jam; critical = critical }) (now (cells .entry)) upstream downstream horizon (now (out .entry)) (now (out .exit)) (now (settled .entry)) (now (settled .exit)) (now (steps .entry)) (now (steps .exit)) (now (place .exit)) n ⌝ }
+{
+    let road = Road {
+        divisor,
+        free,
+        wave,
+        jam,
+        critical,
+    };
+    match forecast::settle(road, cells, upstream, downstream, horizon, out) {
+        SettleAnswer::Done(s) => {
+            *settled = flag(s.settled);
+            *steps = s.steps;
+            *place = 0;
+            0
+        }
+        SettleAnswer::Refused(f) => {
+            *place = f.place;
+            f.number
+        }
+    }
+}
+
+// Internal: 1 for true, 0 for false.
+fn flag(b: bool) -> u32
+    ensures { λ n. ⌜ n ≡ flagOf b ⌝ }
+{
+    if b { 1 } else { 0 }
+}

@@ -1,0 +1,3 @@
+// The C interface: one exported function a public call. The road goes in as five numbers, lists as pointer and length;
+// the result is 0 or the refusal's number, and further results go through pointers.
+mod level1;
