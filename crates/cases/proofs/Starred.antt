@@ -12,10 +12,12 @@ use Rattle.scheme.specs.Exact.{exactFlow, exactStep}
 use Rattle.scheme.specs.Settling.{sameWord, still, after, settles, settleSteps, settleCells}
 use Rattle.forecast.specs.Forecast.{forecastRefusal, forecastAnswer, forecastCells}
 use Rattle.forecast.specs.Settle.{settleRefusal, settleAnswer, settleOutput}
+use Rattle.modes.specs.Modes.{modeOf, modesOf, rowTable, rowOf, terms, dot, rowValue, rowNumerators}
+use Rattle.modes.specs.Words.{turned, wordCount}
 use Rattle.cases.specs.Starred.{Starred}
 
 pub starred : Starred
-unfolding sending receiving numerator units scaled inW inL letter orIf roadRefusal firstAbove ahead advance outflow entering leaving stepped sum wordOf moved roundStep roundRun entered left exactFlow exactStep sameWord still after settles settleSteps settleCells forecastRefusal forecastAnswer forecastCells settleRefusal settleAnswer settleOutput
+unfolding sending receiving numerator units scaled inW inL letter orIf roadRefusal firstAbove ahead advance outflow entering leaving stepped sum wordOf moved roundStep roundRun entered left exactFlow exactStep sameWord still after settles settleSteps settleCells forecastRefusal forecastAnswer forecastCells settleRefusal settleAnswer settleOutput modeOf modesOf rowTable rowOf terms dot rowValue rowNumerators turned wordCount
 starred = record {
   letter-200-200 = refl;
   units-200-200 = refl;
@@ -42,4 +44,10 @@ starred = record {
   settled = refl;
   settled-steps = refl;
   settled-cell = refl;
+  three-modes = refl;
+  three-numerators = refl;
+  foreign-numerator = refl;
+  count-0 = refl;
+  count-1 = refl;
+  count-2 = refl;
 }

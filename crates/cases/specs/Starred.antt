@@ -3,6 +3,7 @@ use mathlib.Core.Path.{_≡_}
 use mathlib.Core.Bool.{true}
 use mathlib.Core.List.{List, [], _∷_}
 use Prim.Native.Nat.{ℕ}
+use lib.IntN.{pos, negsuc}
 use lib.ListN.{length}
 use Rattle.road.specs.declared.Road.{Road}
 use Rattle.flux.specs.Face.{numerator, units, letterW, letterL, letterD, letter}
@@ -10,6 +11,8 @@ use Rattle.scheme.specs.Exact.{exactStep}
 use Rattle.scheme.specs.Word.{wordOf}
 use Rattle.forecast.specs.Forecast as Forecast
 use Rattle.forecast.specs.Settle as Settle
+use Rattle.modes.specs.Modes.{modesOf, rowNumerators}
+use Rattle.modes.specs.Words.{wordCount}
 
 -- Road A: J 1000, C 200, D 5, p 4, q 1
 abbrev pub roadA : Road
@@ -59,8 +62,16 @@ pub record Starred : Type 0 where
   pub three-letters : wordOf roadA 100 0 three ≡ letterD ∷ letterL ∷ letterW ∷ letterL ∷ []
   pub three-cells : oneStepCells three 100 0 ≡ 220 ∷ 250 ∷ 600 ∷ []
   pub three-entered : oneStep three 100 0 .entered ≡ 80
+  pub three-modes : modesOf (wordOf roadA 100 0 three) ≡ 6 ∷ 3 ∷ 2 ∷ []
+  pub three-numerators : rowNumerators roadA 100 0 (wordOf roadA 100 0 three) three ≡ pos 1100 ∷ pos 1250 ∷ pos 3000 ∷ []
   pub three-left : oneStep three 100 0 .left ≡ 160
   -- one cell 2, ends 0, T 9
   pub settled : settling .settled ≡ true
   pub settled-steps : settling .steps ≡ 1
   pub settled-cell : Settle.settleOutput roadA (2 ∷ []) 0 0 9 (2 ∷ []) ≡ 1 ∷ []
+  -- one cell 0, ends 0, word D W
+  pub foreign-numerator : rowNumerators roadA 0 0 (letterD ∷ letterW ∷ []) (0 ∷ []) ≡ negsuc 999 ∷ []
+  -- word counts
+  pub count-0 : wordCount 0 ≡ 3
+  pub count-1 : wordCount 1 ≡ 7
+  pub count-2 : wordCount 2 ≡ 16

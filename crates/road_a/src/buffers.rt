@@ -13,3 +13,9 @@ pub fn ends(density: u32) -> [u32; 4097]
 {
     [density; 4097]
 }
+
+pub fn codes() -> [u8; 258]
+    ensures { λ r. ⌜ 258 ≡ length r ⌝ }
+{
+    [7u8; 258]
+}

@@ -1,6 +1,9 @@
 // The worked cases of document 01, run: one line a case, compared by the gate.
 mod buffers;
+mod counts;
 mod forecasts;
+mod predictions;
+mod readings;
 mod roads;
 mod say;
 mod settlings;
@@ -11,4 +14,9 @@ fn main() {
     forecasts::refused();
     forecasts::edges();
     settlings::cases();
+    readings::cases();
+    readings::fits();
+    predictions::rows();
+    predictions::candidates();
+    counts::cases();
 }

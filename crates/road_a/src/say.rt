@@ -45,3 +45,34 @@ pub fn cells(xs: &[u32]) {
         number(xs.len() as u64);
     }
 }
+
+// The codes of a list of letters or modes, at most four, and how many there are in all.
+pub fn codes(xs: &[u8]) {
+    code(xs, 0);
+    code(xs, 1);
+    code(xs, 2);
+    code(xs, 3);
+    if 4 < xs.len() {
+        text(b" .. of ");
+        number(xs.len() as u64);
+    }
+}
+
+fn code(xs: &[u8], i: usize) {
+    if i < xs.len() {
+        text(b" ");
+        number(wide_code(xs[i]));
+    }
+}
+
+fn wide_code(x: u8) -> u64 {
+    x as u64
+}
+
+// All of a short list of counts.
+pub fn all(xs: &[u32], from: usize) {
+    cell(xs, from);
+    if from < xs.len() {
+        cell(xs, from + 1);
+    }
+}

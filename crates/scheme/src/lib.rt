@@ -8,4 +8,5 @@ pub use many_steps::run;
 pub use one_step::Moved;
 pub use one_step::step;
 pub use settling::Settled;
+pub use settling::density_at;
 pub use settling::settle;

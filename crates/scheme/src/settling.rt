@@ -28,7 +28,7 @@ pub fn all(a: bool, b: bool) -> bool
 }
 
 // Internal: the density at i, or the ghost cell's past the last.
-fn density_at(x: &[u32], i: usize, down: u32) -> u32
+pub fn density_at(x: &[u32], i: usize, down: u32) -> u32
     ensures { λ r. ⌜ r ≡ ahead down (drop i (now (x .entry))) ⌝ }
 {
     if i < x.len() { x[i] } else { down }

@@ -1,0 +1,10 @@
+pub mod Signs
+pub mod Terms
+pub mod Value
+pub mod Round
+pub mod Zero
+pub mod Product
+pub mod Sum
+pub mod Order
+pub mod Within
+pub mod Row

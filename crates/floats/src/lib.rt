@@ -1,0 +1,1 @@
+// Floats that are whole numbers: theorems only.

@@ -1,0 +1,192 @@
+-- The candidate's answers, accepted and refused, and that on whole estimates the numerator is the whole row's value.
+use mathlib.Core.Path.{_≡_, _∙_, refl, sym, ap, subst}
+use mathlib.Core.Bool.{Bool, true, false}
+use Prim.Native.Nat.{ℕ, _+_, _*_, _^_, _≤_}
+use native.Mathlib.Nat.{le-trans, mul-le-mul}
+use native.Mathlib.Omega.{arith}
+use lib.Dec.{lit<, lit≤, eqb}
+use lib.IntN.{ℤ, pos, natAbs}
+use lib.Ieee.{Float, binary64, prec, ne, lt, ofInt, ofBits}
+use borrow.Author.Tests.{eq-eqb, ne-eqb}
+use Rattle.road.specs.Choice.{pick, or}
+use Rattle.road.specs.Ceilings.{divisorCeiling}
+use Rattle.road.specs.Table.{Row, Lowest, passed}
+use Rattle.road.specs.Judgement.{roadRows, Accepted}
+use Rattle.road.specs.declared.Road.{Road}
+use Rattle.road.specs.declared.refusal.Refusal.{Refusal}
+use Rattle.road.proofs.Table.{the-rule, none-holds, nothing-refused, row-returned, passing-append, all-pass}
+use Rattle.road.proofs.Acceptance.{road-passing}
+use Rattle.road.proofs.Choice.{or-left, or-right, neither, from-low, to-high, inside}
+use Rattle.floats.specs.Worth.{Worth, Passes}
+use Rattle.floats.proofs.Round.{ofInt-worth}
+use Rattle.floats.proofs.Row.{row-exact}
+use Rattle.floats.proofs.Within.{within}
+use Rattle.floats.proofs.Zero.{not-minus-zero}
+use Rattle.modes.specs.declared.candidates.Prediction.{Prediction}
+use Rattle.modes.specs.declared.candidates.CandidateAnswer.{CandidateAnswer}
+use Rattle.modes.specs.declared.candidates.CandidateAnswer.the-variants.{Done, Refused}
+use Rattle.modes.specs.Modes.{rowValue}
+use Rattle.modes.specs.Candidate as C
+use Rattle.modes.proofs.Parts.{road-first}
+use Rattle.modes.proofs.Sizes.{largest, row-small}
+use Rattle.modes.proofs.Coefficients.{left-small, own-small, right-small, constant-small, row-split}
+
+-- an estimate that the tests let through
+passes-of : (j : ℕ) (x : Float) → C.badEstimate j x ≡ false → Passes binary64 j x
+passes-of j x e =
+    let low = lt x (ofBits binary64 0) in
+    let high = lt (ofInt binary64 (pos j)) x in
+    let rest = or-right (ne x x) (or low high) e in
+    record { known = or-left (ne x x) (or low high) e; low = or-left low high rest; high = or-right low high rest }
+
+of-passes : (j : ℕ) (x : Float) → Passes binary64 j x → C.badEstimate j x ≡ false
+of-passes j x p =
+    neither (ne x x) (or (lt x (ofBits binary64 0)) (lt (ofInt binary64 (pos j)) x)) (p .known)
+    (neither (lt x (ofBits binary64 0)) (lt (ofInt binary64 (pos j)) x) (p .low) (p .high))
+
+-- a place that 14 reports: the estimate there is bad, and no earlier one is
+pub record EstimatePlaced (left own right : Bool) (place : ℕ) : Type 0 where
+  pub low : 1 ≤ place
+  pub high : place ≤ 3
+  pub first : place ≡ 1 → left ≡ true
+  pub second : place ≡ 2 → (left ≡ false) × (own ≡ true)
+  pub third : place ≡ 3 → (left ≡ false) × (own ≡ false) × (right ≡ true)
+
+estimate-placed : (a b c : Bool) → or a (or b c) ≡ true → EstimatePlaced a b c (pick a 1 (pick b 2 3))
+estimate-placed true b c e =
+    record { low = lit≤ tt; high = lit≤ tt; first = λ q. refl; second = λ q. absurd (omega arith); third = λ q. absurd (omega arith) }
+estimate-placed false true c e =
+    record { low = lit≤ tt; high = lit≤ tt; first = λ q. absurd (omega arith); second = λ q. (refl, refl); third = λ q. absurd (omega arith) }
+estimate-placed false false c e =
+    record { low = lit≤ tt; high = lit≤ tt; first = λ q. absurd (omega arith); second = λ q. absurd (omega arith); third = λ q. (refl, refl, e) }
+
+module _ (r : Road) (mode : ℕ) (left own right : Float) where
+  -- the number returned is the lowest that applies
+  pub candidate-lowest : Lowest (C.candidateRows r mode left own right) (C.candidateRefusal r mode left own right)
+  unfolding C.candidateRefusal
+  candidate-lowest = the-rule (C.candidateRows r mode left own right) tt
+
+  pub candidate-placed : C.candidateRefusal r mode left own right .number ≡ 14
+      → EstimatePlaced (C.badEstimate (r .jam) left) (C.badEstimate (r .jam) own) (C.badEstimate (r .jam) right) (C.candidateRefusal r mode left own right .place)
+  unfolding C.candidateRefusal
+  candidate-placed e =
+      let back = row-returned (C.candidateRows r mode left own right) tt 5 (lit< tt) e in
+      let holds : C.badEstimates (r .jam) left own right ≡ true = ap (λ (x : Row). x .condition) back in
+      let same : C.estimatePlace (r .jam) left own ≡ C.candidateRefusal r mode left own right .place = ap (λ (x : Row). x .place) back in
+      subst (EstimatePlaced (C.badEstimate (r .jam) left) (C.badEstimate (r .jam) own) (C.badEstimate (r .jam) right)) same
+      (estimate-placed (C.badEstimate (r .jam) left) (C.badEstimate (r .jam) own) (C.badEstimate (r .jam) right) holds)
+
+  -- an input that nothing is refused of
+  pub candidate-checked-of : C.candidateRefusal r mode left own right .number ≡ 0 → C.CandidateChecked r mode left own right
+  unfolding C.candidateRefusal
+  candidate-checked-of e =
+      let no = none-holds (C.candidateRows r mode left own right) tt e in
+      let j = r .jam in
+      let any : C.badEstimates j left own right ≡ false = no 5 (lit< tt) in
+      let rest = or-right (C.badEstimate j left) (or (C.badEstimate j own) (C.badEstimate j right)) any in
+      record {
+        accepted = road-first r (C.estimateRows r mode left own right) e;
+        mode-low = from-low 1 7 mode (no 4 (lit< tt));
+        mode-high = to-high 1 7 mode (no 4 (lit< tt));
+        left-passes = passes-of j left (or-left (C.badEstimate j left) (or (C.badEstimate j own) (C.badEstimate j right)) any);
+        own-passes = passes-of j own (or-left (C.badEstimate j own) (C.badEstimate j right) rest);
+        right-passes = passes-of j right (or-right (C.badEstimate j own) (C.badEstimate j right) rest);
+      }
+
+  -- and the other way round: no refusal otherwise
+  pub candidate-checked-passes : C.CandidateChecked r mode left own right → C.candidateRefusal r mode left own right ≡ passed
+  unfolding C.candidateRefusal
+  candidate-checked-passes c =
+      all-pass (C.candidateRows r mode left own right)
+      (passing-append (roadRows r) (C.estimateRows r mode left own right) (road-passing r (c .accepted)) (
+        inside 1 7 mode (c .mode-low) (c .mode-high),
+        (
+          neither (C.badEstimate (r .jam) left) (or (C.badEstimate (r .jam) own) (C.badEstimate (r .jam) right))
+              (of-passes (r .jam) left (c .left-passes))
+              (neither (C.badEstimate (r .jam) own) (C.badEstimate (r .jam) right)
+              (of-passes (r .jam) own (c .own-passes))
+              (of-passes (r .jam) right (c .right-passes))),
+          tt,
+        ),
+      ))
+
+  -- a whole estimate of an accepted call is a natural up to jam
+  pub whole-estimate : Accepted r → (x : Float) (z : ℤ) → Passes binary64 (r .jam) x → Worth x z → (n : ℕ) × (z ≡ pos n) × (n ≤ r .jam)
+  whole-estimate ok x z p w = within (le-trans (ok .jam-high) (lit≤ tt)) w p
+
+  natural : Accepted r → (x : Float) (n : ℕ) → Passes binary64 (r .jam) x → Worth x (pos n) → n ≤ r .jam
+  natural ok x n p w =
+      let (k, e, h) = whole-estimate ok x (pos n) p w in
+      let same : n ≡ k = ap natAbs e in
+      omega arith
+
+  -- on whole estimates the numerator is the row's value, exactly
+  module _ (c : C.CandidateChecked r mode left own right) (l o t : ℕ) (l-is : Worth left (pos l)) (o-is : Worth own (pos o)) (t-is : Worth right (pos t)) where
+    total : (k₁ k₂ k₃ k₀ : ℤ) → natAbs k₁ ≤ divisorCeiling → natAbs k₂ ≤ 3 * divisorCeiling → natAbs k₃ ≤ divisorCeiling → natAbs k₀ ≤ 3 * largest
+        → natAbs (pos l) * natAbs k₁ + natAbs (pos o) * natAbs k₂ + natAbs (pos t) * natAbs k₃ + natAbs k₀ ≤ 2 ^ prec binary64
+    total k₁ k₂ k₃ k₀ b₁ b₂ b₃ b₀ =
+        let high = c .accepted .jam-high in
+        let p₁ = mul-le-mul (le-trans (natural (c .accepted) left l (c .left-passes) l-is) high) b₁ in
+        let p₂ = mul-le-mul (le-trans (natural (c .accepted) own o (c .own-passes) o-is) high) b₂ in
+        let p₃ = mul-le-mul (le-trans (natural (c .accepted) right t (c .right-passes) t-is) high) b₃ in
+        omega arith
+
+    same-row : C.predicted r mode left own right ≡ ofInt binary64 (rowValue r mode l o t)
+    unfolding C.rowFor
+    same-row =
+        let ok = c .accepted in
+        let b₁ = left-small mode (c .mode-low) (c .mode-high) r ok in
+        let b₂ = own-small mode (c .mode-low) (c .mode-high) r ok in
+        let b₃ = right-small mode (c .mode-low) (c .mode-high) r ok in
+        let b₀ = constant-small mode (c .mode-low) (c .mode-high) r ok in
+        row-exact binary64 (C.leftCoefficient r mode) (C.ownCoefficient r mode) (C.rightCoefficient r mode) (C.constantOf r mode)
+        l-is o-is t-is (le-trans b₁ (lit≤ tt)) (le-trans b₂ (lit≤ tt)) (le-trans b₃ (lit≤ tt))
+        (total (C.leftCoefficient r mode) (C.ownCoefficient r mode) (C.rightCoefficient r mode) (C.constantOf r mode) b₁ b₂ b₃ b₀)
+        ∙ ap (ofInt binary64) (sym (row-split r ok mode (c .mode-low) (c .mode-high) l o t
+        (natural ok left l (c .left-passes) l-is) (natural ok own o (c .own-passes) o-is) (natural ok right t (c .right-passes) t-is)))
+
+    pub whole-row : C.Whole (C.predicted r mode left own right) (rowValue r mode l o t)
+    whole-row = record {
+      same = same-row;
+      worth = rw same-row (ofInt-worth binary64 (rowValue r mode l o t) (le-trans small (lit≤ tt)));
+      plain = λ e q. not-minus-zero binary64 (rowValue r mode l o t) e (sym same-row ∙ q);
+    }
+      where
+        small : natAbs (rowValue r mode l o t) ≤ 8 * largest
+        small =
+            let ok = c .accepted in
+            row-small r ok l o t
+            (natural ok left l (c .left-passes) l-is) (natural ok own o (c .own-passes) o-is) (natural ok right t (c .right-passes) t-is)
+            mode (c .mode-low) (c .mode-high)
+
+-- what an accepted answer carries is what it says
+same-prediction : {p q : Prediction} → _≡_ {A = CandidateAnswer} (Done p) (Done q) → p ≡ q
+same-prediction e = cc
+
+module _ (r : Road) (mode : ℕ) (left own right : Float) where
+  -- refused: the number and place of the table
+  pub candidate-refused : (f : Refusal) → f ≡ C.candidateRefusal r mode left own right → (f .number ≡ 0 → ⊥)
+      → C.Candidates r mode left own right (Refused f)
+  unfolding C.candidateAnswer C.candidateMeaning
+  candidate-refused f e n =
+      let no : eqb (C.candidateRefusal r mode left own right .number) 0 ≡ false = rw e at (ne-eqb (f .number) 0 n) in
+      record {
+        answer = rw no (ap Refused e);
+        means = rw no (ap (λ (g : Refusal). C.meaning (Refused g)) e);
+        exact = λ p q. let z : _≡_ {A = ℕ} 0 1 = cc q in absurd (omega arith);
+      }
+
+  -- accepted: the row applied
+  pub candidate-done : C.candidateRefusal r mode left own right .number ≡ 0 → (x : Float) → x ≡ C.predicted r mode left own right
+      → C.Candidates r mode left own right (Done (record { numerator = x }))
+  unfolding C.candidateAnswer C.candidateMeaning C.candidateRefusal
+  candidate-done e x is =
+      let yes-it-is : eqb (C.candidateRefusal r mode left own right .number) 0 ≡ true = eq-eqb _ 0 e in
+      let nothing : C.candidateRefusal r mode left own right ≡ passed = nothing-refused (C.candidateRows r mode left own right) tt e in
+      record {
+        answer = rw yes-it-is (λ i. Done (record { numerator = is i }));
+        means = rw yes-it-is (λ i. record { number = sym nothing i .number; place = sym nothing i .place; value = is i });
+        exact = λ p q l o t l-is o-is t-is.
+            let numerators : x ≡ p .numerator = ap (λ (s : Prediction). s .numerator) (same-prediction q) in
+            rw (sym numerators ∙ is) (whole-row r mode left own right (candidate-checked-of r mode left own right e) l o t l-is o-is t-is);
+      }

@@ -1,0 +1,47 @@
+-- The word count's answers, refused and accepted, and its rule.
+use mathlib.Core.Path.{_≡_, sym, ap}
+use mathlib.Core.Bool.{true, false}
+use Prim.Native.Nat.{ℕ, _≤_}
+use lib.Dec.{eqb, lit<}
+use borrow.Author.Tests.{eq-eqb, ne-eqb, ltb-false, le-ltb}
+use Rattle.road.specs.Ceilings.{countCeiling}
+use Rattle.road.specs.Table.{Lowest, passed}
+use Rattle.road.specs.declared.refusal.Refusal.{Refusal}
+use Rattle.road.proofs.Table.{the-rule, none-holds, all-pass, nothing-refused}
+use Rattle.modes.specs.Words.{wordCount}
+use Rattle.modes.specs.Count.{countRows, countRefusal, countAnswer, countMeaning, meaning, CountsWords}
+use Rattle.modes.specs.declared.counting.CountAnswer.the-variants.{Done, Refused}
+
+module _ (n : ℕ) where
+  -- the number returned is the lowest that applies
+  pub count-lowest : Lowest (countRows n) (countRefusal n)
+  unfolding countRefusal
+  count-lowest = the-rule (countRows n) tt
+
+  -- nothing is refused exactly up to the ceiling
+  pub count-within : countRefusal n .number ≡ 0 → n ≤ countCeiling
+  unfolding countRefusal
+  count-within e = ltb-false countCeiling n (none-holds (countRows n) tt e 0 (lit< tt))
+
+  pub count-passes : n ≤ countCeiling → countRefusal n ≡ passed
+  unfolding countRefusal
+  count-passes h = all-pass (countRows n) (le-ltb countCeiling n h, tt)
+
+  pub refused : (f : Refusal) → f ≡ countRefusal n → (f .number ≡ 0 → ⊥) → CountsWords n (Refused f)
+  unfolding countAnswer countMeaning
+  refused f e h =
+      let no : eqb (countRefusal n .number) 0 ≡ false = rw e at (ne-eqb (f .number) 0 h) in
+      record {
+        answer = rw no (ap Refused e);
+        means = rw no (ap (λ (g : Refusal). meaning (Refused g)) e);
+      }
+
+  pub done : countRefusal n .number ≡ 0 → (words : ℕ) → words ≡ wordCount n → CountsWords n (Done (record { words = words }))
+  unfolding countAnswer countMeaning countRefusal
+  done e words same =
+      let yes-it-is : eqb (countRefusal n .number) 0 ≡ true = eq-eqb _ 0 e in
+      let nothing : countRefusal n ≡ passed = nothing-refused (countRows n) tt e in
+      record {
+        answer = rw yes-it-is (λ i. Done (record { words = same i }));
+        means = rw yes-it-is (λ i. record { number = sym nothing i .number; place = sym nothing i .place; words = same i });
+      }

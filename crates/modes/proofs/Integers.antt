@@ -1,0 +1,68 @@
+-- Laws of the integers beside the library's: a sum times a number, differences of naturals, and sizes.
+use mathlib.Core.Path.{_≡_, refl, ap, sym, _∙_}
+use Prim.Native.Nat.{ℕ, zero, suc, _+_, _-_, _*_, _≤_}
+use native.Mathlib.Nat.{sub-add-cancel, le-of-lt, lt-of-not-le}
+use native.Mathlib.Decide.{decLe}
+use native.Mathlib.Omega.{arith}
+use lib.IntN.{ℤ, pos, negsuc, sucℤ, predℤ, _+ℤ_, _-ℤ_, _*ℤ_, negℤ, natAbs, sucℤ-+ℤ, predℤ-+ℤ, sucℤ-*ℤ, predℤ-*ℤ, zero-*ℤ}
+use lib.IntN.{+ℤ-idl, +ℤ-assoc, +ℤ-comm, +ℤ-negℤ-cancel, negℤ-+ℤ, negℤ-negℤ}
+use Rattle.scheme.specs.Sums.{gap}
+
+-- every integer is reached from 0 by steps of one
+pub by-steps : (P : ℤ → Type 0) → P (pos 0) → ((m : ℤ) → P m → P (sucℤ m)) → ((m : ℤ) → P m → P (predℤ m)) → (k : ℤ) → P k
+by-steps P z up down (pos zero) = z
+by-steps P z up down (pos (suc n)) = up (pos n) (by-steps P z up down (pos n))
+by-steps P z up down (negsuc zero) = down (pos 0) z
+by-steps P z up down (negsuc (suc n)) = down (negsuc n) (by-steps P z up down (negsuc n))
+
+-- sums regrouped
++ℤ-swap : (a b c : ℤ) → a +ℤ b +ℤ c ≡ a +ℤ c +ℤ b
++ℤ-swap a b c = +ℤ-assoc a b c ∙ ap (λ x. a +ℤ x) (+ℤ-comm b c) ∙ sym (+ℤ-assoc a c b)
+
+pub +ℤ-cross : (a b c d : ℤ) → (a +ℤ b) +ℤ (c +ℤ d) ≡ (a +ℤ c) +ℤ (b +ℤ d)
++ℤ-cross a b c d = sym (+ℤ-assoc (a +ℤ b) c d) ∙ ap (λ x. x +ℤ d) (+ℤ-swap a b c) ∙ +ℤ-assoc (a +ℤ c) b d
+
+-- a sum times a number
+pub +ℤ-times : (a b k : ℤ) → (a +ℤ b) *ℤ k ≡ a *ℤ k +ℤ b *ℤ k
++ℤ-times a b k =
+    by-steps (λ x. (x +ℤ b) *ℤ k ≡ x *ℤ k +ℤ b *ℤ k)
+    (simp (+ℤ-idl, zero-*ℤ))
+    (λ m e. simp (sucℤ-+ℤ, sucℤ-*ℤ, e) (+ℤ-swap (m *ℤ k) (b *ℤ k) k))
+    (λ m e. simp (predℤ-+ℤ, predℤ-*ℤ, e) (+ℤ-swap (m *ℤ k) (b *ℤ k) (negℤ k)))
+    a
+
+-- a difference of naturals that is not cut off
+pub pos-minus : {m n : ℕ} → n ≤ m → pos m -ℤ pos n ≡ pos (m - n)
+pos-minus {m} {n} h = ap (λ x. pos x -ℤ pos n) (sym (sub-add-cancel h)) ∙ +ℤ-negℤ-cancel (pos (m - n)) (pos n)
+
+-- the size of a negated number, of a difference of naturals, of a sum and of a product
+natAbs-neg : (k : ℤ) → natAbs (negℤ k) ≡ natAbs k
+natAbs-neg (pos zero) = refl
+natAbs-neg (pos (suc n)) = refl
+natAbs-neg (negsuc n) = refl
+
+pub natAbs-minus : (m n : ℕ) → natAbs (pos m -ℤ pos n) ≡ gap m n
+unfolding gap
+natAbs-minus m n = by-order (decLe n m)
+  where
+    turned : negℤ (pos n -ℤ pos m) ≡ pos m -ℤ pos n
+    turned = simp (negℤ-+ℤ, negℤ-negℤ) (+ℤ-comm (negℤ (pos n)) (pos m))
+
+    by-order : Dec (n ≤ m) → natAbs (pos m -ℤ pos n) ≡ (m - n) + (n - m)
+    by-order (yes h) = rw (pos-minus h) (omega arith)
+    by-order (no f) =
+        let h = le-of-lt (lt-of-not-le f) in
+        rw (← turned, natAbs-neg, pos-minus h) (omega arith)
+
+pub natAbs-sum : (k l : ℤ) → natAbs (k +ℤ l) ≤ natAbs k + natAbs l
+unfolding gap
+natAbs-sum (pos a) (pos b) = omega arith
+natAbs-sum (pos a) (negsuc b) = omega (arith, natAbs-minus a (suc b))
+natAbs-sum (negsuc a) (pos b) = omega (arith, natAbs-minus b (suc a))
+natAbs-sum (negsuc a) (negsuc b) = omega arith
+
+pub natAbs-times : (k l : ℤ) → natAbs (k *ℤ l) ≡ natAbs k * natAbs l
+natAbs-times (pos a) (pos b) = refl
+natAbs-times (pos a) (negsuc b) = natAbs-neg (pos (a * suc b))
+natAbs-times (negsuc a) (pos b) = natAbs-neg (pos (suc a * b))
+natAbs-times (negsuc a) (negsuc b) = refl

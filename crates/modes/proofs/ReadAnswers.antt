@@ -1,0 +1,82 @@
+-- The reading's promise, refused and accepted, from what its parts hand back.
+use mathlib.Core.Path.{_≡_, _∙_, refl, sym, ap}
+use mathlib.Core.Bool.{true, false}
+use mathlib.Core.List.{List}
+use Prim.Native.Nat.{ℕ, _+_, _≤_}
+use native.Mathlib.Omega.{arith}
+use lib.Dec.{eqb}
+use lib.ListN.{length}
+use borrow.Author.Tests.{eq-eqb, ne-eqb}
+use Rattle.road.specs.Ceilings.{cellsCeiling}
+use Rattle.road.specs.Table.{passed}
+use Rattle.road.specs.declared.Road.{Road}
+use Rattle.road.specs.declared.refusal.Refusal.{Refusal}
+use Rattle.road.proofs.Table.{nothing-refused}
+use Rattle.scheme.specs.Word.{wordOf}
+use Rattle.scheme.proofs.Faces.{word-length}
+use Rattle.modes.specs.Modes.{modesOf}
+use Rattle.modes.specs.Judging.{readRows, readRefusal}
+use Rattle.modes.specs.Reading.{Numbered, tallied, noCounts, readAnswer, readLetters, readModes, ReadChecked, Reads}
+use Rattle.modes.specs.declared.reading.ReadAnswer.{ReadAnswer}
+use Rattle.modes.specs.declared.reading.ReadAnswer.the-variants.{Done, Refused}
+use Rattle.modes.specs.declared.reading.Counts.{Counts}
+use Rattle.modes.specs.declared.reading.StateReading.{StateReading}
+use Rattle.modes.proofs.Counted.{state-modes-length, state-numbered, state-counts-sum}
+use Rattle.modes.proofs.ReadJudging.{read-checked-of}
+
+-- an answer beside its counts
+abbrev reading : ReadAnswer → Counts → StateReading
+reading a c = record { answer = a; counts = c }
+
+module _ (r : Road) (cells : List ℕ) (up down : ℕ) (letters modes : List ℕ) where
+  -- refused: the number and place of the table, no counts, and the former contents
+  pub refused : (f : Refusal) → f ≡ readRefusal r cells up down (length letters) (length modes) → (f .number ≡ 0 → ⊥)
+      → Reads r cells up down letters letters modes modes (reading (Refused f) noCounts)
+  unfolding readAnswer readLetters readModes
+  refused f e n =
+      let no : eqb (readRefusal r cells up down (length letters) (length modes) .number) 0 ≡ false = rw e at (ne-eqb (f .number) 0 n) in
+      record {
+        answer = rw no (ap (λ (g : Refusal). reading (Refused g) noCounts) e);
+        number = ap (λ (g : Refusal). g .number) e;
+        place = ap (λ (g : Refusal). g .place) e;
+        letters-written = rw no refl;
+        modes-written = rw no refl;
+        counts-sum = λ q. let z : _≡_ {A = ℕ} 0 1 = cc q in absurd (omega arith);
+      }
+
+  -- accepted: the word, its modes and their counts
+  module _ (e : readRefusal r cells up down (length letters) (length modes) .number ≡ 0) where
+    pub checked : ReadChecked r cells up down (length letters) (length modes)
+    checked = read-checked-of r cells up down (length letters) (length modes) e
+
+    module _ (word : List ℕ) (lettered : word ≡ wordOf r up down cells) where
+      -- what the modes' writing asks
+      pub word-long : length word ≡ length modes + 1
+      word-long = let w = ap length lettered ∙ word-length r up down cells in let m = checked .modes-long in omega arith
+
+      module _ (ms : List ℕ) (moded : ms ≡ modesOf word) where
+        modes-are : ms ≡ modesOf (wordOf r up down cells)
+        modes-are = moded ∙ ap modesOf lettered
+
+        -- what the counting asks
+        pub tally-asks : (length ms ≤ cellsCeiling) × Numbered ms
+        tally-asks = (
+          let n = ap length modes-are ∙ state-modes-length r up down cells in let h = checked .cells-high in omega arith,
+          rw modes-are (state-numbered r up down cells (checked .accepted)),
+        )
+
+        pub done : (c : Counts) → c ≡ tallied ms → Reads r cells up down letters word modes ms (reading Done c)
+        unfolding readAnswer readLetters readModes readRefusal
+        done c counted =
+            let yes-it-is : eqb (readRefusal r cells up down (length letters) (length modes) .number) 0 ≡ true = eq-eqb _ 0 e in
+            let nothing : readRefusal r cells up down (length letters) (length modes) ≡ passed =
+            nothing-refused (readRows r cells up down (length letters) (length modes)) tt e in
+            let counts : c ≡ tallied (modesOf (wordOf r up down cells)) = counted ∙ ap tallied modes-are in
+            record {
+              answer = rw yes-it-is (ap (reading Done) counts);
+              number = sym (ap (λ (g : Refusal). g .number) nothing);
+              place = sym (ap (λ (g : Refusal). g .place) nothing);
+              letters-written = rw yes-it-is lettered;
+              modes-written = rw yes-it-is modes-are;
+              counts-sum = λ q. rw counts (state-counts-sum r up down cells (checked .accepted));
+            }

@@ -1,0 +1,43 @@
+-- `modes::candidate` meets its contract: refused, or the mode's row applied.
+use mathlib.Core.Path.{_≡_, _∙_, ap}
+use Rattle.modes.specs.declared.candidates.CandidateRow.{CandidateRow}
+use Rattle.modes.specs.Candidate.{applied, candidateRefusal}
+use Rattle.modes.proofs.Parts.{same-number}
+use Rattle.modes.proofs.CandidateAnswers.{candidate-checked-of, candidate-refused, candidate-done}
+use borrow.Author.Needs.{needs}
+use Rattle.modes.proofs.candidates.candidate.Statement.{statement}
+use Rattle.modes.proofs.candidates.candidate.Tie as tie
+
+judged-requires : tie.Need-judged-requires
+judged-requires c κs = search needs
+
+returns : tie.Need-returns
+returns c =
+    let j = c .before .before in
+    let a = j .before .args in
+    candidate-refused (a .road) (a .mode) (a .left) (a .own) (a .right) (j .judged .result) (j .judged .ensures) (c .if1 .taken)
+
+-- past the branch nothing is refused
+nothing : (c : tie.Else1) → let a = c .before .before .before .args in
+    candidateRefusal (a .road) (a .mode) (a .left) (a .own) (a .right) .number ≡ 0
+nothing c = same-number (c .before .before .judged .ensures) (c .if1 .left)
+
+of-requires : tie.Need-of-requires
+of-requires c κs =
+    let a = c .before .before .before .args in
+    let checked = candidate-checked-of (a .road) (a .mode) (a .left) (a .own) (a .right) (nothing c) in
+    (checked .accepted, (checked .mode-low, checked .mode-high))
+
+applied-requires : tie.Need-applied-requires
+applied-requires c κs = search needs
+
+returns-2 : tie.Need-returns-2
+returns-2 c =
+    let go = c .before .before in
+    let a = go .before .before .before .args in
+    candidate-done (a .road) (a .mode) (a .left) (a .own) (a .right) (nothing go) (c .applied .result)
+    (c .applied .ensures ∙ ap (λ (row : CandidateRow). applied row (a .left) (a .own) (a .right)) (c .before .of .ensures))
+
+pub candidate-spec : {M : Type 1} → statement M
+candidate-spec =
+    tie.close (tie.spec judged-requires returns of-requires applied-requires returns-2)

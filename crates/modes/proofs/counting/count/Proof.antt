@@ -1,0 +1,31 @@
+-- `modes::count` meets its contract: refused above the ceiling, otherwise counted.
+use mathlib.Core.Path.{_≡_}
+use Rattle.modes.specs.Count.{countRefusal}
+use Rattle.modes.proofs.Parts.{same-number}
+use Rattle.modes.proofs.CountAnswers.{count-within, refused, done}
+use borrow.Author.Needs.{needs}
+use Rattle.modes.proofs.counting.count.Statement.{statement}
+use Rattle.modes.proofs.counting.count.Tie as tie
+
+judged-requires : tie.Need-judged-requires
+judged-requires c κs = search needs
+
+returns : tie.Need-returns
+returns c =
+    let j = c .before .before in
+    refused (j .before .args .cells) (j .judged .result) (j .judged .ensures) (c .if1 .taken)
+
+-- past the branch nothing is refused
+nothing : (c : tie.Else1) → countRefusal (c .before .before .before .args .cells) .number ≡ 0
+nothing c = same-number (c .before .before .judged .ensures) (c .if1 .left)
+
+counted-requires : tie.Need-counted-requires
+counted-requires c κs = count-within (c .before .before .before .args .cells) (nothing c)
+
+returns-2 : tie.Need-returns-2
+returns-2 c =
+    let go = c .before in
+    done (go .before .before .before .args .cells) (nothing go) (c .counted .result) (c .counted .ensures)
+
+pub count-spec : {M : Type 1} → statement M
+count-spec = tie.close (tie.spec judged-requires returns counted-requires returns-2)

@@ -1,0 +1,39 @@
+-- `modes::multiplier` meets its contract: the constant is the definition's table, entry by entry.
+use mathlib.Core.Path.{refl}
+use native.Mathlib.Nat.{le-trans}
+use lib.Dec.{lit≤}
+use Rattle.modes.specs.Modes.{rowTable, rowOf}
+use Rattle.modes.proofs.Table.{entry-small}
+use Rattle.modes.proofs.Sizes.{kept}
+use borrow.Author.Needs.{needs}
+use Rattle.modes.proofs.numerators.multiplier.Statement.{statement}
+use Rattle.modes.proofs.numerators.multiplier.Tie as tie
+
+sub-row : tie.Need-sub-row
+sub-row c = search needs
+
+cast-row : tie.Need-cast-row
+cast-row c = search needs
+
+mul-result : tie.Need-mul-result
+mul-result c = search needs
+
+mul-result-2 : tie.Need-mul-result-2
+mul-result-2 c = search needs
+
+index-1-result : tie.Need-index-1-result
+index-1-result c = search needs
+
+index-2-result : tie.Need-index-2-result
+index-2-result c = search needs
+
+returns : tie.Need-returns
+unfolding rowOf rowTable
+returns c =
+    let s = c .before in
+    kept refl (le-trans (entry-small (s .args .mode) (s .args .column) (s .pre .0) (s .pre .1 .0) (s .pre .1 .1)) (lit≤ tt))
+
+pub multiplier-spec : {M : Type 1} → statement M
+multiplier-spec =
+    tie.close
+    (tie.spec sub-row cast-row mul-result mul-result-2 index-1-result index-2-result returns)

@@ -1,0 +1,46 @@
+-- `modes::judged_shape` of the row prediction meets its contract: below the road's rows, rows 5 and 8.
+use mathlib.Core.Path.{_∙_, refl}
+use Rattle.road.specs.Judgement.{roadRefusal}
+use Rattle.road.proofs.Table.{next-row}
+use Rattle.modes.specs.Prediction.{predictShapeRefusal}
+use borrow.Author.Needs.{needs}
+use Rattle.modes.proofs.prediction.judged_shape.Statement.{statement}
+use Rattle.modes.proofs.prediction.judged_shape.Tie as tie
+
+bad-cells-requires : tie.Need-bad-cells-requires
+bad-cells-requires c κs = search needs
+
+bad-output-requires : tie.Need-bad-output-requires
+bad-output-requires c κs = search needs
+
+judged-requires : tie.Need-judged-requires
+judged-requires c κs = search needs
+
+or-if-requires : tie.Need-or-if-requires
+or-if-requires c κs = search needs
+
+or-if-requires-2 : tie.Need-or-if-requires-2
+or-if-requires-2 c κs = search needs
+
+returns : tie.Need-returns
+unfolding predictShapeRefusal roadRefusal
+returns c =
+    let judged = c .before .before in
+    let output = judged .before in
+    let cells = output .before in
+    c .or-if2 .ensures
+    ∙ next-row 8
+    (c .before .or-if .ensures ∙ next-row 5 (judged .judged .ensures) (cells .bad-cells .ensures) refl)
+    (output .bad-output .ensures)
+    refl
+
+pub judged-shape-spec : {M : Type 1} → statement M
+judged-shape-spec =
+    tie.close
+    (tie.spec
+    bad-cells-requires
+    bad-output-requires
+    judged-requires
+    or-if-requires
+    or-if-requires-2
+    returns)

@@ -1,0 +1,78 @@
+-- `modes::read` meets its contract: refused, nothing is written; otherwise the letters, then the modes of the letters, then the counts of the modes.
+use mathlib.Core.Path.{_≡_, _∙_, sym, ap}
+use lib.ListN.{length}
+use Rattle.road.specs.declared.refusal.Refusal.{Refusal}
+use Rattle.modes.specs.Judging.{readRefusal}
+use Rattle.modes.proofs.ReadAnswers.{refused, checked, word-long, tally-asks, done}
+use borrow.Author.Needs.{needs}
+use Rattle.modes.proofs.reading.read.Statement.{statement}
+use Rattle.modes.proofs.reading.read.Tie as tie
+
+judged-requires : tie.Need-judged-requires
+judged-requires c κs = search needs
+
+returns : tie.Need-returns
+returns c =
+    let j = c .before .before in
+    let s = j .before .before .before .before in
+    refused (s .args .road) (s .args .cells .now) (s .args .up) (s .args .down) (s .args .letters .now) (s .args .modes .now)
+    (j .judged .result) (j .judged .ensures) (c .if1 .taken)
+
+-- past the branch nothing is refused
+nothing : (c : tie.Else1) → let s = c .before .before .before .before .before .before in
+    readRefusal (s .args .road) (s .args .cells .now) (s .args .up) (s .args .down) (length (s .args .letters .now)) (length (s .args .modes .now)) .number ≡ 0
+nothing c = sym (ap (λ (f : Refusal). f .number) (c .before .before .judged .ensures)) ∙ c .if1 .left
+
+write-letters-requires : tie.Need-write-letters-requires
+write-letters-requires c κs =
+    let go = c .before in
+    let s = go .before .before .before .before .before .before in
+    let k = checked (s .args .road) (s .args .cells .now) (s .args .up) (s .args .down) (s .args .letters .now) (s .args .modes .now) (nothing go) in
+    (k .accepted, (k .cells-below, (k .up-below, (k .down-below, k .letters-long))))
+
+write-modes-requires : tie.Need-write-modes-requires
+write-modes-requires c κs =
+    let lettered = c .before .before .before .before in
+    let go = lettered .before .before in
+    let s = go .before .before .before .before .before .before in
+    word-long (s .args .road) (s .args .cells .now) (s .args .up) (s .args .down) (s .args .letters .now) (s .args .modes .now) (nothing go)
+    (lettered .write-letters .last .1 .1 .1 .1 .0) (lettered .write-letters .ensures)
+
+tally-requires : tie.Need-tally-requires
+tally-requires c κs =
+    let moded = c .before .before .before in
+    let lettered = moded .before .before .before .before .before in
+    let go = lettered .before .before in
+    let s = go .before .before .before .before .before .before in
+    tally-asks (s .args .road) (s .args .cells .now) (s .args .up) (s .args .down) (s .args .letters .now) (s .args .modes .now) (nothing go)
+    (lettered .write-letters .last .1 .1 .1 .1 .0) (lettered .write-letters .ensures)
+    (moded .write-modes .last .1 .0) (moded .write-modes .ensures)
+
+same-length : tie.Need-same-length
+same-length c = search needs
+
+same-length-2 : tie.Need-same-length-2
+same-length-2 c = search needs
+
+returns-2 : tie.Need-returns-2
+returns-2 c =
+    let moded = c .before .before .before .before in
+    let lettered = moded .before .before .before .before .before in
+    let go = lettered .before .before in
+    let s = go .before .before .before .before .before .before in
+    done (s .args .road) (s .args .cells .now) (s .args .up) (s .args .down) (s .args .letters .now) (s .args .modes .now) (nothing go)
+    (lettered .write-letters .last .1 .1 .1 .1 .0) (lettered .write-letters .ensures)
+    (moded .write-modes .last .1 .0) (moded .write-modes .ensures) (c .tally .result) (c .tally .ensures)
+
+pub read-spec : {M : Type 1} → statement M
+read-spec =
+    tie.close
+    (tie.spec
+    judged-requires
+    returns
+    write-letters-requires
+    write-modes-requires
+    tally-requires
+    same-length
+    same-length-2
+    returns-2)

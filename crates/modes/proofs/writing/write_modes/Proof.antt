@@ -1,0 +1,72 @@
+-- `modes::write_modes` meets its contract: the loop keeps `Moding`.
+use Prim.Native.Nat.{_-_}
+use native.Mathlib.Omega.{arith}
+use borrow.Author.Needs.{needs}
+use lib.ListN.{length, length-set}
+use Rattle.modes.proofs.ModeLoop.{Moding, begins, turns, ends}
+use Rattle.modes.proofs.writing.write_modes.Statement.{statement}
+use Rattle.modes.proofs.writing.write_modes.Tie as tie
+
+abbrev Inv-loop : tie.InvT-loop
+Inv-loop word modes₀ i₀ modes i = Moding word modes i
+
+abbrev μ-loop : tie.MeasureT-loop
+μ-loop word modes₀ i₀ modes i = length modes - i
+
+loop-holds : tie.Need-loop-holds Inv-loop μ-loop
+loop-holds c = let s = c .before .before in begins (s .args .word .now) (s .args .modes .now) (s .pre)
+
+shared-slice-read-mode-of : tie.Need-shared-slice-read-mode-of Inv-loop μ-loop
+shared-slice-read-mode-of c = let l = c .before .before .loop .inv .long in omega arith
+
+add-mode-of : tie.Need-add-mode-of Inv-loop μ-loop
+add-mode-of c = search needs
+
+shared-slice-read-mode-of-2 : tie.Need-shared-slice-read-mode-of-2 Inv-loop μ-loop
+shared-slice-read-mode-of-2 c = let l = c .before .before .before .loop .inv .long in omega arith
+
+mode-of-requires : tie.Need-mode-of-requires Inv-loop μ-loop
+mode-of-requires c κs = search needs
+
+slice-write-modes : tie.Need-slice-write-modes Inv-loop μ-loop
+slice-write-modes c = search needs
+
+add-i : tie.Need-add-i Inv-loop μ-loop
+add-i c = search needs
+
+loop-less : tie.Need-loop-less Inv-loop μ-loop
+loop-less c = simp length-set (omega arith)
+
+loop-again : tie.Need-loop-again Inv-loop μ-loop
+loop-again c =
+    let l = c .before .before .before .before in
+    let s = l .before .before .before in
+    turns (s .args .word .now) (l .loop .modes) (l .loop .i) (l .loop .inv)
+    (c .mode-of .result) (c .before .before .before .loop-test .taken) (c .mode-of .ensures)
+
+same-length : tie.Need-same-length Inv-loop μ-loop
+same-length c = let l = c .before .loop .inv .long in let p = c .before .before .before .before .pre in omega arith
+
+returns : tie.Need-returns Inv-loop μ-loop
+returns c =
+    let l = c .before in
+    let s = l .before .before .before in
+    ends (s .args .word .now) (l .loop .modes) (l .loop .i) (l .loop .inv) (c .loop-test .left)
+
+pub write-modes-spec : {M : Type 1} → statement M
+write-modes-spec =
+    tie.close
+    (tie.spec
+    Inv-loop
+    μ-loop
+    loop-holds
+    shared-slice-read-mode-of
+    add-mode-of
+    shared-slice-read-mode-of-2
+    mode-of-requires
+    slice-write-modes
+    add-i
+    loop-less
+    loop-again
+    same-length
+    returns)

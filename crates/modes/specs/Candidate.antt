@@ -1,0 +1,124 @@
+-- Candidate prediction: one mode's row applied to three float estimates (document 01, "Seven modes", rows 13 and 14).
+use mathlib.Core.Path.{_≡_}
+use mathlib.Core.Bool.{Bool, true}
+use mathlib.Core.List.{List, [], _∷_, _++_}
+use Prim.Native.Nat.{ℕ, _*_, _≤_}
+use lib.Dec.{eqb}
+use lib.IntN.{ℤ, pos, _+ℤ_, _*ℤ_}
+use lib.ListN.{getD}
+use lib.Ieee.{Float, fin, binary64, add, mul, lt, ne, ofInt, ofBits}
+use Rattle.road.specs.Choice.{pick, or}
+use Rattle.road.specs.Table.{Row, row, judge}
+use Rattle.road.specs.Judgement.{roadRows, outside, Accepted}
+use Rattle.road.specs.declared.Road.{Road}
+use Rattle.road.specs.declared.refusal.Refusal.{Refusal}
+use Rattle.floats.specs.Worth.{Worth, Passes}
+use Rattle.modes.specs.Modes.{rowOf, rowValue}
+use Rattle.modes.specs.declared.candidates.CandidateRow.{CandidateRow}
+use Rattle.modes.specs.declared.candidates.Prediction.{Prediction}
+use Rattle.modes.specs.declared.candidates.CandidateAnswer.{CandidateAnswer}
+use Rattle.modes.specs.declared.candidates.CandidateAnswer.the-variants.{Done, Refused}
+
+-- the table's multiplier of a mode in a column
+abbrev pub entry : ℕ → ℕ → ℤ
+entry mode column = getD (rowOf mode) column (pos 0)
+
+-- what a row's value multiplies left, own and right by, and what it adds, in whole numbers. Each row also has D × own
+unfoldable pub leftCoefficient : Road → ℕ → ℤ
+leftCoefficient r mode = entry mode 0 *ℤ pos (r .free)
+
+unfoldable pub ownCoefficient : Road → ℕ → ℤ
+ownCoefficient r mode = pos (r .divisor) +ℤ entry mode 1 *ℤ pos (r .free) +ℤ entry mode 2 *ℤ pos (r .wave)
+
+unfoldable pub rightCoefficient : Road → ℕ → ℤ
+rightCoefficient r mode = entry mode 3 *ℤ pos (r .wave)
+
+unfoldable pub constantOf : Road → ℕ → ℤ
+constantOf r mode =
+    entry mode 4 *ℤ pos (r .wave * r .critical) +ℤ entry mode 5 *ℤ pos (r .free * r .critical) +ℤ entry mode 6 *ℤ pos (r .wave * r .jam)
+
+-- "three float coefficients and a float constant, each exactly the whole number"
+unfoldable pub rowFor : Road → ℕ → CandidateRow
+rowFor r mode = record {
+  left = ofInt binary64 (leftCoefficient r mode);
+  own = ofInt binary64 (ownCoefficient r mode);
+  right = ofInt binary64 (rightCoefficient r mode);
+  constant = ofInt binary64 (constantOf r mode);
+}
+
+-- "left × coefficient plus own × coefficient, then plus right × coefficient, then plus the constant, each operation rounded once"
+abbrev pub applied : CandidateRow → Float → Float → Float → Float
+applied row left own right =
+    add binary64 (add binary64 (add binary64 (mul binary64 left (row .left)) (mul binary64 own (row .own))) (mul binary64 right (row .right))) (row .constant)
+
+-- an estimate that is not a number, below 0 or above j. −0.0 is not below 0, and infinity is above j
+abbrev pub badEstimate : ℕ → Float → Bool
+badEstimate j x = or (ne x x) (or (lt x (ofBits binary64 0)) (lt (ofInt binary64 (pos j)) x))
+
+-- 14: one of the three is bad; its place is 1, 2 or 3, lowest first
+abbrev pub badEstimates : ℕ → Float → Float → Float → Bool
+badEstimates j left own right = or (badEstimate j left) (or (badEstimate j own) (badEstimate j right))
+
+abbrev pub estimatePlace : ℕ → Float → Float → ℕ
+estimatePlace j left own = pick (badEstimate j left) 1 (pick (badEstimate j own) 2 3)
+
+-- rows 13, a mode outside 1 to 7, and 14
+abbrev pub estimateRows : Road → ℕ → Float → Float → Float → List Row
+estimateRows r mode left own right =
+    row (outside 1 7 mode) 13 0 ∷ row (badEstimates (r .jam) left own right) 14 (estimatePlace (r .jam) left own) ∷ []
+
+-- "candidate 1–4, 13, 14"
+abbrev pub candidateRows : Road → ℕ → Float → Float → Float → List Row
+candidateRows r mode left own right = roadRows r ++ estimateRows r mode left own right
+
+unfoldable pub candidateRefusal : Road → ℕ → Float → Float → Float → Refusal
+candidateRefusal r mode left own right = judge (candidateRows r mode left own right)
+
+-- the numerator that the row predicts
+abbrev pub predicted : Road → ℕ → Float → Float → Float → Float
+predicted r mode left own right = applied (rowFor r mode) left own right
+
+unfoldable pub candidateAnswer : Road → ℕ → Float → Float → Float → CandidateAnswer
+candidateAnswer r mode left own right =
+    pick (eqb (candidateRefusal r mode left own right .number) 0)
+    (Done (record { numerator = predicted r mode left own right }))
+    (Refused (candidateRefusal r mode left own right))
+
+-- the paper's numbers of an answer: number (0 when accepted), place, the numerator (0.0 when refused)
+pub record Meaning : Type 0 where
+  pub number : ℕ
+  pub place : ℕ
+  pub value : Float
+
+abbrev pub meaning : CandidateAnswer → Meaning
+meaning (Done p) = record { number = 0; place = 0; value = p .numerator }
+meaning (Refused f) = record { number = f .number; place = f .place; value = ofBits binary64 0 }
+
+unfoldable pub candidateMeaning : Road → ℕ → Float → Float → Float → Meaning
+candidateMeaning r mode left own right = record {
+  number = candidateRefusal r mode left own right .number;
+  place = candidateRefusal r mode left own right .place;
+  value = pick (eqb (candidateRefusal r mode left own right .number) 0) (predicted r mode left own right) (ofBits binary64 0);
+}
+
+-- what an input that no row refuses is
+pub record CandidateChecked (r : Road) (mode : ℕ) (left own right : Float) : Type 0 where
+  pub accepted : Accepted r
+  pub mode-low : 1 ≤ mode
+  pub mode-high : mode ≤ 7
+  pub left-passes : Passes binary64 (r .jam) left
+  pub own-passes : Passes binary64 (r .jam) own
+  pub right-passes : Passes binary64 (r .jam) right
+
+-- the float is exactly the whole numerator z, and never −0.0
+pub record Whole (x : Float) (z : ℤ) : Type 0 where
+  pub same : x ≡ ofInt binary64 z
+  pub worth : Worth x z
+  pub plain : (e : ℤ) → x ≡ fin true 0 e → ⊥
+
+-- what the call promises; the estimates of an accepted call are whole only as naturals, as `whole-estimate` shows
+pub record Candidates (r : Road) (mode : ℕ) (left own right : Float) (a : CandidateAnswer) : Type 0 where
+  pub answer : a ≡ candidateAnswer r mode left own right
+  pub means : meaning a ≡ candidateMeaning r mode left own right
+  pub exact : (p : Prediction) → a ≡ Done p → (l o t : ℕ) → Worth left (pos l) → Worth own (pos o) → Worth right (pos t)
+      → Whole (p .numerator) (rowValue r mode l o t)

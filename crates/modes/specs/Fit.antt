@@ -1,0 +1,83 @@
+-- The fit test: whether a state and end pair fit a word (document 01, "Seven modes").
+use mathlib.Core.Path.{_≡_}
+use mathlib.Core.Bool.{Bool, true, false}
+use mathlib.Core.List.{List, [], _∷_}
+use Prim.Native.Nat.{ℕ, suc, _+_, _≤_}
+use lib.Dec.{eqb}
+use lib.ListN.{length}
+use Rattle.road.specs.Choice.{pick}
+use Rattle.road.specs.Ceilings.{cellsCeiling}
+use Rattle.road.specs.Table.{judge}
+use Rattle.road.specs.Judgement.{Accepted}
+use Rattle.road.specs.declared.Road.{Road}
+use Rattle.road.specs.declared.refusal.Refusal.{Refusal}
+use Rattle.scheme.specs.Sums.{Below}
+use Rattle.scheme.specs.Word.{wordOf}
+use Rattle.modes.specs.Words.{legal}
+use Rattle.modes.specs.Judging.{fitShapeRows, fitRefusal}
+use Rattle.modes.specs.declared.fitting.FitResult.{FitResult}
+use Rattle.modes.specs.declared.fitting.FitAnswer.{FitAnswer}
+use Rattle.modes.specs.declared.fitting.FitAnswer.the-variants.{Done, Refused}
+
+-- the lowest face at which two words of one length differ, from 0; the number of faces where none does. Check 12 lets no other length through
+unfoldable pub firstMisfit : List ℕ → List ℕ → ℕ
+firstMisfit [] ts = 0
+firstMisfit (s ∷ ss) [] = 0
+firstMisfit (s ∷ ss) (t ∷ ts) = pick (eqb s t) (suc (firstMisfit ss ts)) 0
+
+-- whether all n+1 faces of the word hold, and the lowest face that does not (0 where all hold)
+unfoldable pub allHold : Road → List ℕ → ℕ → ℕ → List ℕ → Bool
+allHold r cells up down word = eqb (firstMisfit (wordOf r up down cells) word) (length cells + 1)
+
+unfoldable pub misfitFace : Road → List ℕ → ℕ → ℕ → List ℕ → ℕ
+misfitFace r cells up down word = pick (allHold r cells up down word) 0 (firstMisfit (wordOf r up down cells) word)
+
+unfoldable pub fitAnswer : Road → List ℕ → ℕ → ℕ → List ℕ → FitAnswer
+fitAnswer r cells up down word =
+    pick (eqb (fitRefusal r cells up down word .number) 0)
+    (Done (record { holds = allHold r cells up down word; face = misfitFace r cells up down word }))
+    (Refused (fitRefusal r cells up down word))
+
+-- the paper's numbers of an answer: number (0 when accepted), place, whether all hold, the lowest face that does not
+pub record Meaning : Type 0 where
+  pub number : ℕ
+  pub place : ℕ
+  pub holds : Bool
+  pub face : ℕ
+
+abbrev pub meaning : FitAnswer → Meaning
+meaning (Done f) = record { number = 0; place = 0; holds = f .holds; face = f .face }
+meaning (Refused f) = record { number = f .number; place = f .place; holds = false; face = 0 }
+
+unfoldable pub fitMeaning : Road → List ℕ → ℕ → ℕ → List ℕ → Meaning
+fitMeaning r cells up down word = record {
+  number = fitRefusal r cells up down word .number;
+  place = fitRefusal r cells up down word .place;
+  holds = pick (eqb (fitRefusal r cells up down word .number) 0) (allHold r cells up down word) false;
+  face = pick (eqb (fitRefusal r cells up down word .number) 0) (misfitFace r cells up down word) 0;
+}
+
+-- what the rows 1 to 5 come to
+unfoldable pub fitShapeRefusal : Road → ℕ → Refusal
+fitShapeRefusal r n = judge (fitShapeRows r n)
+
+-- what an input that no row refuses is
+pub record FitChecked (r : Road) (cells : List ℕ) (up down : ℕ) (word : List ℕ) : Type 0 where
+  pub accepted : Accepted r
+  pub cells-low : 1 ≤ length cells
+  pub cells-high : length cells ≤ cellsCeiling
+  pub cells-below : Below (r .jam) cells
+  pub up-below : up ≤ r .jam
+  pub down-below : down ≤ r .jam
+  pub word-long : length word ≡ length cells + 1
+  pub word-legal : legal word ≡ true
+
+-- what the comparison of the faces reports
+pub record Compared (r : Road) (cells : List ℕ) (up down : ℕ) (word : List ℕ) (f : FitResult) : Type 0 where
+  pub holds : f .holds ≡ allHold r cells up down word
+  pub face : f .face ≡ misfitFace r cells up down word
+
+-- what the call promises
+pub record Fits (r : Road) (cells : List ℕ) (up down : ℕ) (word : List ℕ) (a : FitAnswer) : Type 0 where
+  pub answer : a ≡ fitAnswer r cells up down word
+  pub means : meaning a ≡ fitMeaning r cells up down word

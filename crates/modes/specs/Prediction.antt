@@ -1,0 +1,61 @@
+-- Row prediction: a legal word's rows applied to any accepted state (document 01, "Seven modes").
+use mathlib.Core.Path.{_≡_}
+use mathlib.Core.Bool.{true}
+use mathlib.Core.List.{List}
+use Prim.Native.Nat.{ℕ, _+_, _≤_}
+use lib.Dec.{eqb}
+use lib.IntN.{ℤ}
+use lib.ListN.{length}
+use Rattle.road.specs.Choice.{pick}
+use Rattle.road.specs.Ceilings.{cellsCeiling}
+use Rattle.road.specs.Table.{judge}
+use Rattle.road.specs.Judgement.{Accepted}
+use Rattle.road.specs.declared.Road.{Road}
+use Rattle.road.specs.declared.refusal.Refusal.{Refusal}
+use Rattle.scheme.specs.Sums.{Below}
+use Rattle.modes.specs.Words.{legal}
+use Rattle.modes.specs.Modes.{rowNumerators}
+use Rattle.modes.specs.Judging.{predictShapeRows, predictRefusal}
+use Rattle.modes.specs.declared.prediction.PredictAnswer.{PredictAnswer}
+use Rattle.modes.specs.declared.prediction.PredictAnswer.the-variants.{Done, Refused}
+
+unfoldable pub predictAnswer : Road → List ℕ → ℕ → ℕ → List ℕ → ℕ → PredictAnswer
+predictAnswer r cells up down word out =
+    pick (eqb (predictRefusal r cells up down word out .number) 0) Done (Refused (predictRefusal r cells up down word out))
+
+-- the numerators written, or the former contents
+unfoldable pub predicted : Road → List ℕ → ℕ → ℕ → List ℕ → List ℤ → List ℤ
+predicted r cells up down word out =
+    pick (eqb (predictRefusal r cells up down word (length out) .number) 0) (rowNumerators r up down word cells) out
+
+-- the paper's numbers of an answer: number (0 when accepted) and place
+abbrev pub predictNumber : PredictAnswer → ℕ
+predictNumber Done = 0
+predictNumber (Refused f) = f .number
+
+abbrev pub predictPlace : PredictAnswer → ℕ
+predictPlace Done = 0
+predictPlace (Refused f) = f .place
+
+-- what the rows 1 to 5 and 8 come to
+unfoldable pub predictShapeRefusal : Road → ℕ → ℕ → Refusal
+predictShapeRefusal r n out = judge (predictShapeRows r n out)
+
+-- what an input that no row refuses is
+pub record PredictChecked (r : Road) (cells : List ℕ) (up down : ℕ) (word : List ℕ) (out : ℕ) : Type 0 where
+  pub accepted : Accepted r
+  pub cells-low : 1 ≤ length cells
+  pub cells-high : length cells ≤ cellsCeiling
+  pub output-long : out ≡ length cells
+  pub cells-below : Below (r .jam) cells
+  pub up-below : up ≤ r .jam
+  pub down-below : down ≤ r .jam
+  pub word-long : length word ≡ length cells + 1
+  pub word-legal : legal word ≡ true
+
+-- what the call promises
+pub record Predicts (r : Road) (cells : List ℕ) (up down : ℕ) (word : List ℕ) (out next : List ℤ) (a : PredictAnswer) : Type 0 where
+  pub answer : a ≡ predictAnswer r cells up down word (length out)
+  pub number : predictNumber a ≡ predictRefusal r cells up down word (length out) .number
+  pub place : predictPlace a ≡ predictRefusal r cells up down word (length out) .place
+  pub output : next ≡ predicted r cells up down word out

@@ -1,0 +1,98 @@
+-- The reading of a state: letters, modes, seven counts and the queued cells (document 01, "Seven modes").
+use mathlib.Core.Path.{_≡_}
+use mathlib.Core.List.{List, [], _∷_}
+use Prim.Native.Nat.{ℕ, _+_, _≤_, _<_}
+use lib.Dec.{eqb, leb}
+use lib.ListN.{length, getD}
+use Rattle.road.specs.Choice.{pick}
+use Rattle.road.specs.Table.{judge}
+use Rattle.road.specs.Ceilings.{cellsCeiling}
+use Rattle.road.specs.Judgement.{Accepted}
+use Rattle.road.specs.declared.Road.{Road}
+use Rattle.road.specs.declared.refusal.Refusal.{Refusal}
+use Rattle.scheme.specs.Sums.{sum, Below}
+use Rattle.scheme.specs.Word.{wordOf}
+use Rattle.modes.specs.Modes.{modesOf}
+use Rattle.modes.specs.Judging.{readShapeRows, readRefusal}
+use Rattle.modes.specs.declared.reading.ReadAnswer.{ReadAnswer}
+use Rattle.modes.specs.declared.reading.ReadAnswer.the-variants.{Done, Refused}
+use Rattle.modes.specs.declared.reading.Counts.{Counts}
+use Rattle.modes.specs.declared.reading.StateReading.{StateReading}
+
+-- how many of the modes are k
+unfoldable pub countOf : ℕ → List ℕ → ℕ
+countOf k [] = 0
+countOf k (m ∷ ms) = pick (eqb m k) 1 0 + countOf k ms
+
+-- seven counts, one for each mode
+unfoldable pub countsOf : List ℕ → List ℕ
+countsOf ms = countOf 1 ms ∷ countOf 2 ms ∷ countOf 3 ms ∷ countOf 4 ms ∷ countOf 5 ms ∷ countOf 6 ms ∷ countOf 7 ms ∷ []
+
+-- the queued cells: those in modes 1, 2 and 3, the lowest of the modes 1 to 7, which source 003 calls congestion
+unfoldable pub queuedOf : List ℕ → ℕ
+queuedOf [] = 0
+queuedOf (m ∷ ms) = pick (leb m 3) 1 0 + queuedOf ms
+
+-- every mode is one of the seven
+abbrev pub Numbered : List ℕ → Type 0
+Numbered ms = (i : ℕ) → i < length ms → (1 ≤ getD ms i 0) × (getD ms i 0 ≤ 7)
+
+-- the counts of a list of modes
+abbrev pub tallied : List ℕ → Counts
+tallied ms = record { modes = countsOf ms; queued = queuedOf ms }
+
+-- no counts
+abbrev pub noCounts : Counts
+noCounts = record { modes = 0 ∷ 0 ∷ 0 ∷ 0 ∷ 0 ∷ 0 ∷ 0 ∷ []; queued = 0 }
+
+-- what rows 1 to 5 and 8 come to
+unfoldable pub readShapeRefusal : Road → ℕ → ℕ → ℕ → Refusal
+readShapeRefusal r n letters modes = judge (readShapeRows r n letters modes)
+
+-- what an input that no row refuses is
+pub record ReadChecked (r : Road) (cells : List ℕ) (up down letters modes : ℕ) : Type 0 where
+  pub accepted : Accepted r
+  pub cells-low : 1 ≤ length cells
+  pub cells-high : length cells ≤ cellsCeiling
+  pub letters-long : letters ≡ length cells + 1
+  pub modes-long : modes ≡ length cells
+  pub cells-below : Below (r .jam) cells
+  pub up-below : up ≤ r .jam
+  pub down-below : down ≤ r .jam
+
+-- what the reading answers: the counts beside Done, or the refusal beside all counts 0
+unfoldable pub readAnswer : Road → List ℕ → ℕ → ℕ → ℕ → ℕ → StateReading
+readAnswer r cells up down letters modes =
+    pick (eqb (readRefusal r cells up down letters modes .number) 0)
+    (record {
+      answer = Done;
+      counts = tallied (modesOf (wordOf r up down cells));
+    })
+    (record { answer = Refused (readRefusal r cells up down letters modes); counts = noCounts })
+
+-- the letters and the modes written, or the former contents
+unfoldable pub readLetters : Road → List ℕ → ℕ → ℕ → List ℕ → List ℕ → List ℕ
+readLetters r cells up down letters modes =
+    pick (eqb (readRefusal r cells up down (length letters) (length modes) .number) 0) (wordOf r up down cells) letters
+
+unfoldable pub readModes : Road → List ℕ → ℕ → ℕ → List ℕ → List ℕ → List ℕ
+readModes r cells up down letters modes =
+    pick (eqb (readRefusal r cells up down (length letters) (length modes) .number) 0) (modesOf (wordOf r up down cells)) modes
+
+-- the paper's numbers of an answer: number (0 when accepted) and place
+abbrev pub readNumber : ReadAnswer → ℕ
+readNumber Done = 0
+readNumber (Refused f) = f .number
+
+abbrev pub readPlace : ReadAnswer → ℕ
+readPlace Done = 0
+readPlace (Refused f) = f .place
+
+-- what the call promises
+pub record Reads (r : Road) (cells : List ℕ) (up down : ℕ) (letters next-letters modes next-modes : List ℕ) (a : StateReading) : Type 0 where
+  pub answer : a ≡ readAnswer r cells up down (length letters) (length modes)
+  pub number : readNumber (a .answer) ≡ readRefusal r cells up down (length letters) (length modes) .number
+  pub place : readPlace (a .answer) ≡ readRefusal r cells up down (length letters) (length modes) .place
+  pub letters-written : next-letters ≡ readLetters r cells up down letters modes
+  pub modes-written : next-modes ≡ readModes r cells up down letters modes
+  pub counts-sum : a .answer ≡ Done → sum (a .counts .modes) ≡ length cells

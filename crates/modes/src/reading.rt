@@ -1,0 +1,90 @@
+// The reading of a state: the letter of every face, the mode of every cell, seven counts and the queued cells.
+ghost use mathlib.Core.Path.{_≡_};
+ghost use lib.ListN.{length};
+ghost use Rattle.modes.specs.Judging.{readRefusal};
+ghost use Rattle.modes.specs.Reading.{readShapeRefusal, Reads};
+use super::tallying::tally;
+use super::writing::write_letters;
+use super::writing::write_modes;
+use road::Refusal;
+use road::Road;
+
+// One count for each mode, 1 to 7, and the queued cells.
+pub struct Counts {
+    pub modes: [u32; 7],
+    pub queued: u32,
+}
+
+// Whether a reading was made.
+pub enum ReadAnswer {
+    Done,
+    Refused(Refusal),
+}
+
+// A reading's answer beside its counts, all 0 when refused.
+pub struct StateReading {
+    pub answer: ReadAnswer,
+    pub counts: Counts,
+}
+
+// Internal: rows 1 to 5 and 8, of the road and of the lists' lengths. The cells come as a slice, whose length leaves room
+// for one face more.
+fn judged_shape(road: Road, cells: &[u32], letters: usize, modes: usize) -> Refusal
+    ensures { λ f. ⌜ f ≡ readShapeRefusal road (length (now (cells .entry))) letters modes ⌝ }
+{
+    let bad_cells = checks::bad_cells(cells.len());
+    let bad_letters = checks::bad_output(cells.len() + 1, letters);
+    let bad_modes = checks::bad_output(cells.len(), modes);
+    let bad_output = road::either(bad_letters, bad_modes);
+    road::judged(road)
+        .or_if(bad_cells, 5, 0)
+        .or_if(bad_output, 8, 0)
+}
+
+// Internal: the reading's refusal, or none. The values are judged only once the list is known to be short, so that a
+// place always fits its 32 bits.
+fn judged(road: Road, cells: &[u32], up: u32, down: u32, letters: usize, modes: usize) -> Refusal
+    ensures { λ f. ⌜ f ≡ readRefusal road (now (cells .entry)) up down letters modes ⌝ }
+{
+    let shape = judged_shape(road, cells, letters, modes);
+    if shape.number != 0 {
+        return shape;
+    }
+    let cell = checks::first_above(road.jam, cells);
+    let up_high = checks::is_above(road.jam, up);
+    let down_high = checks::is_above(road.jam, down);
+    shape
+        .or_if(cell < cells.len(), 9, (cell + 1) as u32)
+        .or_if(up_high, 10, 0)
+        .or_if(down_high, 11, 0)
+}
+
+// The letters hold the letter of every face and the modes the mode of every cell; the answer has the seven counts, whose
+// sum is the number of cells, and the queued cells. Refused, both lists keep what they held and the counts are 0.
+pub fn read(
+    road: Road,
+    cells: &[u32],
+    up: u32,
+    down: u32,
+    letters: &mut [u8],
+    modes: &mut [u8],
+) -> StateReading
+    ensures { λ a. ⌜ Reads road (now (cells .entry)) up down (now (letters .entry)) (now (letters .exit)) (now (modes .entry)) (now (modes .exit)) a ⌝ }
+{
+    let refusal = judged(road, cells, up, down, letters.len(), modes.len());
+    if refusal.number != 0 {
+        return StateReading {
+            answer: ReadAnswer::Refused(refusal),
+            counts: Counts {
+                modes: [0; 7],
+                queued: 0,
+            },
+        };
+    }
+    write_letters(road, cells, up, down, letters);
+    write_modes(letters, modes);
+    StateReading {
+        answer: ReadAnswer::Done,
+        counts: tally(modes),
+    }
+}
