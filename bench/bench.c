@@ -1,29 +1,111 @@
-/* Times the proved forecast against plain and tuned C on the same input, interleaved, best of many, and prints ratios.
- * What the proved call spends on judging its input is part of its time. */
+/* Times the proved calls against plain and tuned C on the same input, interleaved, best of many, and prints ratios. What
+ * a proved call spends on judging its input is part of its time; the C kernels judge nothing. */
 #include <stdio.h>
 #include <stdlib.h>
 #include <string.h>
 #include <time.h>
 #include "kernels.h"
+#include "welgadou.h"
 
-enum { CELLS = 256, STEPS = 4096, ROUNDS = 60 };
+enum { CELLS = 256, STEPS = 4096, ROUNDS = 60, KERNELS = 4, SIZES = 4 };
 
-uint32_t welgadou_forecast(uint32_t divisor, uint32_t free, uint32_t wave, uint32_t jam, uint32_t critical,
-                           const uint32_t *cells, size_t n, const uint32_t *up, size_t ups, const uint32_t *down,
-                           size_t downs, uint32_t horizon, uint32_t *out, size_t outs, uint64_t *entered,
-                           uint64_t *left, uint32_t *place);
+/* The input, and what each kernel made of it. */
+static const struct road road = { 4095, 3276, 819, 1000000, 200000 };
+static uint32_t cells[CELLS], up[STEPS], down[STEPS];
+static uint8_t word[CELLS + 1];
+static struct result {
+    uint32_t cells[CELLS], settled, steps, counts[7], queued;
+    uint64_t entered, left;
+    int64_t rows[CELLS];
+    uint8_t letters[CELLS + 1], modes[CELLS];
+} results[KERNELS];
 
-static void proved(const struct road *r, const uint32_t *cells, size_t n, const uint32_t *up, const uint32_t *down,
-                   uint32_t horizon, uint32_t *out, uint64_t *entered, uint64_t *left)
+#define ROAD(r) (r)->divisor, (r)->free, (r)->wave, (r)->jam, (r)->critical
+
+static void accepted(uint32_t number, uint32_t place)
 {
-    uint32_t place;
-    uint32_t number = welgadou_forecast(r->divisor, r->free, r->wave, r->jam, r->critical, cells, n, up, horizon, down,
-                                        horizon, horizon, out, n, entered, left, &place);
     if (number != 0) {
         fprintf(stderr, "refused %u at %u\n", number, place);
         exit(1);
     }
 }
+
+static void proved_forecast(const struct road *r, const uint32_t *x, size_t n, const uint32_t *ups, const uint32_t *downs,
+                            uint32_t horizon, uint32_t *out, uint64_t *entered, uint64_t *left)
+{
+    uint32_t place;
+    uint32_t number = welgadou_forecast(ROAD(r), x, n, ups, horizon, downs, horizon, horizon, out, n, entered, left,
+                                        &place);
+    accepted(number, place);
+}
+
+static void proved_settle(const struct road *r, const uint32_t *x, size_t n, uint32_t before, uint32_t after,
+                          uint32_t horizon, uint32_t *out, uint32_t *settled, uint32_t *steps)
+{
+    uint32_t place;
+    uint32_t number = welgadou_settle(ROAD(r), x, n, before, after, horizon, out, n, settled, steps, &place);
+    accepted(number, place);
+}
+
+static void proved_read(const struct road *r, const uint32_t *x, size_t n, uint32_t before, uint32_t after,
+                        uint8_t *letters, uint8_t *modes, uint32_t *counts, uint32_t *queued)
+{
+    uint32_t place;
+    uint32_t number = welgadou_read(ROAD(r), x, n, before, after, letters, n + 1, modes, n, counts, queued, &place);
+    accepted(number, place);
+}
+
+static void proved_rows(const struct road *r, const uint32_t *x, size_t n, uint32_t before, uint32_t after,
+                        const uint8_t *letters, int64_t *out)
+{
+    uint32_t place;
+    uint32_t number = welgadou_rows(ROAD(r), x, n, before, after, letters, n + 1, out, n, &place);
+    accepted(number, place);
+}
+
+/* The calls: run kernel k on the first n cells, with so many steps. */
+static void run_forecast(int k, size_t n, uint32_t steps)
+{
+    static forecaster *const kernels[] = { plain_forecast, tuned_one_pass, tuned_two_passes, proved_forecast };
+    struct result *to = &results[k];
+    kernels[k](&road, cells, n, up, down, steps, to->cells, &to->entered, &to->left);
+}
+
+static void run_settle(int k, size_t n, uint32_t steps)
+{
+    static settler *const kernels[] = { plain_settle, tuned_settle, proved_settle };
+    struct result *to = &results[k];
+    /* A little more enters than leaves until the road is full, which takes longer than the horizon. */
+    kernels[k](&road, cells, n, 100000, 601000, steps, to->cells, &to->settled, &to->steps);
+}
+
+static void run_read(int k, size_t n, uint32_t steps)
+{
+    static reader *const kernels[] = { plain_read, tuned_read, proved_read };
+    struct result *to = &results[k];
+    (void)steps;
+    kernels[k](&road, cells, n, up[0], down[0], to->letters, to->modes, to->counts, &to->queued);
+}
+
+static void run_rows(int k, size_t n, uint32_t steps)
+{
+    static predictor *const kernels[] = { plain_rows, tuned_rows, proved_rows };
+    (void)steps;
+    kernels[k](&road, cells, n, up[0], down[0], word, results[k].rows);
+}
+
+/* A call with its kernels, plain C first and the proved one last, and how often it is made for one time. */
+static const struct contest {
+    const char *call, *names[KERNELS];
+    int kernels, calls, steps;
+    void (*run)(int k, size_t n, uint32_t steps);
+} contests[] = {
+    { "forecast", { "plain C, division", "tuned C, one pass", "tuned C, two passes", "welgadou_forecast" }, 4, 1, STEPS,
+      run_forecast },
+    { "settle", { "plain C, division", "tuned C, two passes", "welgadou_settle" }, 3, 1, STEPS, run_settle },
+    { "read", { "plain C", "tuned C, two passes", "welgadou_read" }, 3, 1000, 0, run_read },
+    { "rows", { "plain C", "tuned C, two passes", "welgadou_rows" }, 3, 1000, 0, run_rows },
+};
 
 static double seconds(void)
 {
@@ -32,53 +114,77 @@ static double seconds(void)
     return (double)now.tv_sec + 1e-9 * (double)now.tv_nsec;
 }
 
-static const struct road road = { 4095, 3276, 819, 1000000, 200000 };
-static uint32_t cells[CELLS], up[STEPS], down[STEPS], out[4][CELLS];
-static uint64_t entered[4], left[4];
-static kernel *const kernels[4] = { plain_forecast, tuned_one_pass, tuned_two_passes, proved };
-static const char *const names[4] = { "plain C, division", "tuned C, one pass", "tuned C, two passes", "welgadou_forecast" };
-
-/* The best time of each kernel, one after the other in every round. */
-static void measure(size_t n, uint32_t steps, double best[4])
+/* The best time of each kernel, one after the other in every round. All must come to the same result. */
+static void measure(const struct contest *c, size_t n, uint32_t steps, double best[KERNELS])
 {
-    for (int k = 0; k < 4; k++)
+    memset(results, 0, sizeof results);
+    for (int k = 0; k < c->kernels; k++)
         best[k] = 1e9;
     for (int round = 0; round < ROUNDS; round++)
-        for (int k = 0; k < 4; k++) {
+        for (int k = 0; k < c->kernels; k++) {
             double start = seconds();
-            kernels[k](&road, cells, n, up, down, steps, out[k], &entered[k], &left[k]);
+            for (int call = 0; call < c->calls; call++)
+                c->run(k, n, steps);
             double took = seconds() - start;
             if (took < best[k])
                 best[k] = took;
         }
-    for (int k = 1; k < 4; k++)
-        if (memcmp(out[0], out[k], n * sizeof out[0][0]) || entered[0] != entered[k] || left[0] != left[k]) {
-            fprintf(stderr, "%s differs from plain C\n", names[k]);
+    for (int k = 1; k < c->kernels; k++)
+        if (memcmp(&results[0], &results[k], sizeof results[0])) {
+            fprintf(stderr, "%s: %s differs from plain C\n", c->call, c->names[k]);
             exit(1);
         }
+}
+
+/* The ratios at full size, and how the proved call's time grows with cells and with steps. */
+static void compare(const struct contest *c)
+{
+    double best[KERNELS], by_cells[SIZES], by_steps[SIZES], whole;
+    int last = c->kernels - 1;
+    measure(c, CELLS, (uint32_t)c->steps, best);
+    whole = best[last];
+    printf("%s, %d cells", c->call, CELLS);
+    if (c->steps)
+        printf(", %d steps", c->steps);
+    if (results[0].steps)
+        printf(" (%s after %u)", results[0].settled ? "settled" : "unsettled", results[0].steps);
+    printf(", best of %d, ratios of times; one call of welgadou %.2f us\n", ROUNDS, 1e6 * whole / c->calls);
+    for (int k = 0; k < c->kernels; k++)
+        printf("  %-20s %6.3f of plain C   %6.3f of welgadou\n", c->names[k], best[k] / best[0], best[k] / whole);
+    for (int i = 0; i < SIZES; i++) {
+        measure(c, (size_t)CELLS >> i, (uint32_t)c->steps, best);
+        by_cells[i] = best[last];
+        if (c->steps)
+            measure(c, CELLS, (uint32_t)c->steps >> i, best);
+        by_steps[i] = best[last];
+    }
+    printf("  time by cells ");
+    for (int i = SIZES - 1; i >= 0; i--)
+        printf("  %4d %6.3f", CELLS >> i, by_cells[i] / by_cells[0]);
+    if (c->steps) {
+        printf("\n  time by steps ");
+        for (int i = SIZES - 1; i >= 0; i--)
+            printf("  %4d %6.3f", c->steps >> i, by_steps[i] / by_steps[0]);
+    }
+    printf("\n");
 }
 
 int main(void)
 {
     uint32_t seed = 1;
-    double best[4], whole;
     for (int i = 0; i < CELLS; i++)
         cells[i] = (seed = seed * 1664525u + 1013904223u) % (road.jam + 1);
     for (int t = 0; t < STEPS; t++) {
         up[t] = (seed = seed * 1664525u + 1013904223u) % (road.jam + 1);
         down[t] = (seed = seed * 1664525u + 1013904223u) % (road.jam + 1);
     }
-    measure(CELLS, STEPS, best);
-    whole = best[3];
-    printf("%d cells, %d steps, best of %d, ratios of times\n", CELLS, STEPS, ROUNDS);
-    for (int k = 0; k < 4; k++)
-        printf("  %-20s %6.3f of plain C   %6.3f of welgadou\n", names[k], best[k] / best[0], best[k] / best[3]);
-    printf("welgadou_forecast, parts of its time at %d cells and %d steps\n", CELLS, STEPS);
-    for (int part = 4; part >= 1; part /= 2) {
-        measure(CELLS / (size_t)part, STEPS, best);
-        printf("  1/%d of the cells %6.3f", part, best[3] / whole);
-        measure(CELLS, STEPS / (uint32_t)part, best);
-        printf("   1/%d of the steps %6.3f\n", part, best[3] / whole);
-    }
+    /* A legal word, most likely not the state's own. */
+    for (int i = 0; i <= CELLS; i++)
+        do
+            word[i] = (uint8_t)((seed = seed * 1664525u + 1013904223u) >> 16) % 3;
+        while (i > 0 && ((word[i - 1] == WELGADOU_W && word[i] == WELGADOU_D) ||
+                         (word[i - 1] == WELGADOU_L && word[i] == WELGADOU_L)));
+    for (size_t i = 0; i < sizeof contests / sizeof contests[0]; i++)
+        compare(&contests[i]);
     return 0;
 }

@@ -1,1 +1,2 @@
+-- The starred cases of document 01, shown.
 pub mod Starred

@@ -13,11 +13,15 @@ use Rattle.scheme.specs.Settling.{sameWord, still, after, settles, settleSteps,
 use Rattle.forecast.specs.Forecast.{forecastRefusal, forecastAnswer, forecastCells}
 use Rattle.forecast.specs.Settle.{settleRefusal, settleAnswer, settleOutput}
 use Rattle.modes.specs.Modes.{modeOf, modesOf, rowTable, rowOf, terms, dot, rowValue, rowNumerators}
-use Rattle.modes.specs.Words.{turned, wordCount}
+use Rattle.modes.specs.Words.{illegalPair, offends, firstOffence, legal, turned, wordCount}
+use Rattle.modes.specs.Judging.{readRefusal, predictRefusal}
+use Rattle.modes.specs.Reading.{readLetters, readModes}
+use Rattle.modes.specs.Prediction.{predicted}
+use Rattle.modes.specs.Count.{countRefusal, countAnswer}
 use Rattle.cases.specs.Starred.{Starred}
 
 pub starred : Starred
-unfolding sending receiving numerator units scaled inW inL letter orIf roadRefusal firstAbove ahead advance outflow entering leaving stepped sum wordOf moved roundStep roundRun entered left exactFlow exactStep sameWord still after settles settleSteps settleCells forecastRefusal forecastAnswer forecastCells settleRefusal settleAnswer settleOutput modeOf modesOf rowTable rowOf terms dot rowValue rowNumerators turned wordCount
+unfolding sending receiving numerator units scaled inW inL letter orIf roadRefusal firstAbove ahead advance outflow entering leaving stepped sum wordOf moved roundStep roundRun entered left exactFlow exactStep sameWord still after settles settleSteps settleCells forecastRefusal forecastAnswer forecastCells settleRefusal settleAnswer settleOutput modeOf modesOf rowTable rowOf terms dot rowValue rowNumerators illegalPair offends firstOffence legal turned wordCount readRefusal predictRefusal readLetters readModes predicted countRefusal countAnswer
 starred = record {
   letter-200-200 = refl;
   units-200-200 = refl;

@@ -8,11 +8,13 @@ use lib.ListN.{length}
 use Rattle.road.specs.declared.Road.{Road}
 use Rattle.flux.specs.Face.{numerator, units, letterW, letterL, letterD, letter}
 use Rattle.scheme.specs.Exact.{exactStep}
-use Rattle.scheme.specs.Word.{wordOf}
 use Rattle.forecast.specs.Forecast as Forecast
 use Rattle.forecast.specs.Settle as Settle
-use Rattle.modes.specs.Modes.{modesOf, rowNumerators}
-use Rattle.modes.specs.Words.{wordCount}
+use Rattle.modes.specs.Reading.{readLetters, readModes}
+use Rattle.modes.specs.Prediction.{predicted}
+use Rattle.modes.specs.Count.{countAnswer}
+use Rattle.modes.specs.declared.counting.CountAnswer.{CountAnswer}
+use Rattle.modes.specs.declared.counting.CountAnswer.the-variants.{Done}
 
 -- Road A: J 1000, C 200, D 5, p 4, q 1
 abbrev pub roadA : Road
@@ -33,9 +35,20 @@ oneStepCells cells up down = Forecast.forecastCells roadA cells (up ∷ []) (dow
 abbrev pub three : List ℕ
 three = 300 ∷ 150 ∷ 700 ∷ []
 
+-- their reading between the ends 100 and 0: what it leaves in two lists that held zeros
+abbrev pub threeLetters : List ℕ
+threeLetters = readLetters roadA three 100 0 (0 ∷ 0 ∷ 0 ∷ 0 ∷ []) (0 ∷ 0 ∷ 0 ∷ [])
+
+abbrev pub threeModes : List ℕ
+threeModes = readModes roadA three 100 0 (0 ∷ 0 ∷ 0 ∷ 0 ∷ []) (0 ∷ 0 ∷ 0 ∷ [])
+
 -- the starred settling run: one cell 2, ends 0, T 9
 abbrev pub settling : Settle.Meaning
 settling = Settle.meaning (Settle.settleAnswer roadA (2 ∷ []) 0 0 9 1)
+
+-- a word count that is answered
+abbrev pub answered : ℕ → CountAnswer
+answered k = Done (record { words = k })
 
 pub record Starred : Type 0 where
   -- faces: letter and units
@@ -59,19 +72,19 @@ pub record Starred : Type 0 where
   pub one-left : oneStep (101 ∷ []) 0 0 .left ≡ 80
   pub one-exact : exactStep roadA 1 0 0 (101 ∷ []) ≡ 101 ∷ []
   -- upstream 100, cells 300, 150, 700, downstream 0
-  pub three-letters : wordOf roadA 100 0 three ≡ letterD ∷ letterL ∷ letterW ∷ letterL ∷ []
+  pub three-letters : threeLetters ≡ letterD ∷ letterL ∷ letterW ∷ letterL ∷ []
   pub three-cells : oneStepCells three 100 0 ≡ 220 ∷ 250 ∷ 600 ∷ []
   pub three-entered : oneStep three 100 0 .entered ≡ 80
-  pub three-modes : modesOf (wordOf roadA 100 0 three) ≡ 6 ∷ 3 ∷ 2 ∷ []
-  pub three-numerators : rowNumerators roadA 100 0 (wordOf roadA 100 0 three) three ≡ pos 1100 ∷ pos 1250 ∷ pos 3000 ∷ []
+  pub three-modes : threeModes ≡ 6 ∷ 3 ∷ 2 ∷ []
+  pub three-numerators : predicted roadA three 100 0 threeLetters (pos 0 ∷ pos 0 ∷ pos 0 ∷ []) ≡ pos 1100 ∷ pos 1250 ∷ pos 3000 ∷ []
   pub three-left : oneStep three 100 0 .left ≡ 160
   -- one cell 2, ends 0, T 9
   pub settled : settling .settled ≡ true
   pub settled-steps : settling .steps ≡ 1
   pub settled-cell : Settle.settleOutput roadA (2 ∷ []) 0 0 9 (2 ∷ []) ≡ 1 ∷ []
   -- one cell 0, ends 0, word D W
-  pub foreign-numerator : rowNumerators roadA 0 0 (letterD ∷ letterW ∷ []) (0 ∷ []) ≡ negsuc 999 ∷ []
+  pub foreign-numerator : predicted roadA (0 ∷ []) 0 0 (letterD ∷ letterW ∷ []) (pos 0 ∷ []) ≡ negsuc 999 ∷ []
   -- word counts
-  pub count-0 : wordCount 0 ≡ 3
-  pub count-1 : wordCount 1 ≡ 7
-  pub count-2 : wordCount 2 ≡ 16
+  pub count-0 : countAnswer 0 ≡ answered 3
+  pub count-1 : countAnswer 1 ≡ answered 7
+  pub count-2 : countAnswer 2 ≡ answered 16

@@ -1,12 +1,18 @@
 -- What each row says where it does not refuse, and the other way round.
 use mathlib.Core.Path.{_≡_}
 use mathlib.Core.Bool.{false, not}
+use mathlib.Core.List.{List}
 use Prim.Native.Nat.{ℕ, _≤_}
 use lib.Dec.{eqb}
+use lib.ListN.{getD}
 use borrow.Author.Tests.{eqb-true, eq-eqb, ltb-false, le-ltb, not-false}
 use Rattle.road.specs.Ceilings.{cellsCeiling, horizonCeiling}
+use Rattle.road.specs.declared.Road.{Road}
+use Rattle.road.proofs.Table.{Passing}
 use Rattle.road.proofs.Choice.{or-left, or-right, neither, from-low, to-high, inside}
 use Rattle.checks.specs.Lists.{badCells, badHorizon, badEnds, badOutput}
+use Rattle.checks.specs.Values.{pairRows}
+use Rattle.checks.proofs.First.{none-above}
 
 -- two numbers that a test does not tell apart
 same : (a b : ℕ) → not (eqb a b) ≡ false → a ≡ b
@@ -44,3 +50,7 @@ output-long expected given e = same given expected e
 
 pub output-passes : (expected given : ℕ) → given ≡ expected → badOutput expected given ≡ false
 output-passes expected given e = alike given expected e
+
+-- the rows of one end pair, where no density is above jam
+pub pair-passes : (r : Road) (cells : List ℕ) (up down : ℕ) → ((i : ℕ) → getD cells i 0 ≤ r .jam) → up ≤ r .jam → down ≤ r .jam → Passing (pairRows r cells up down)
+pair-passes r cells up down c u d = (none-above (r .jam) cells c, (le-ltb (r .jam) up u, (le-ltb (r .jam) down d, tt)))

@@ -1,10 +1,12 @@
-// Rows 5 to 11 of the refusal table: one test a row, for every call that the table names.
+// Rows 5 to 11 of the refusal table: one test a row, for every call that the table names, and 9 to 11 of one end pair.
 mod lists;
+mod pairs;
 mod values;
 
 pub use lists::bad_cells;
 pub use lists::bad_ends;
 pub use lists::bad_horizon;
 pub use lists::bad_output;
+pub use pairs::or_pair;
 pub use values::first_above;
 pub use values::is_above;

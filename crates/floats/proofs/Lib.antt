@@ -1,3 +1,4 @@
+-- The theorems of whole numbers in floats: rounding, products, sums, order, and a row of them.
 pub mod Signs
 pub mod Terms
 pub mod Value

@@ -1,19 +1,21 @@
--- The sum of two floats that are whole numbers.
+-- The sum of two floats that are whole numbers; and a sum with a whole number is never −0.
 use mathlib.Core.Path.{_≡_, refl, sym, ap, _∙_}
 use mathlib.Core.Bool.{Bool, true, false, not, cond, Bool·beq, _&&_, and-true, and-false}
-use Prim.Native.Nat.{ℕ, _+_, _-_, _*_, _^_, _≤_, _<_}
-use native.Mathlib.Nat.{mul-pos, mul-one, zero-lt-suc}
+use Prim.Native.Nat.{ℕ, zero, suc, _+_, _-_, _*_, _%_, _^_, _≤_, _<_}
+use native.Mathlib.Nat.{mul-pos, mul-one, mul-assoc, mul-right-comm, zero-lt-suc}
 use native.Mathlib.Omega.{arith}
 use borrow.Author.Tests.{lt-ltb, le-ltb}
-use lib.Dec.{ltb}
-use lib.IntN.{ℤ, natAbs, _+ℤ_}
-use lib.Ieee.{Float, Format, prec, down, round, sum, add, ofInt}
-use lib.Ieee.Fits.{down-pos}
+use lib.Dec.{T, eqb, leb, ltb, eqb→eq, leb→le}
+use lib.Pow.{pow-pos}
+use lib.IntN.{ℤ, pos, negsuc, natAbs, _+ℤ_}
+use lib.Ieee.{Float, nan, inf, fin, Format, prec, emax, low, up, down, round, sum, add, ofInt, fits}
+use lib.Ieee.Fits.{down-pos, and-l, and-r}
 use lib.Ieee.Scale.{round-same}
 use Rattle.floats.specs.Worth.{Worth}
-use Rattle.floats.proofs.Signs.{Plainly, plainly, plain}
+use Rattle.floats.proofs.Signs.{Plain, Plainly, plainly, plain}
 use Rattle.floats.proofs.Terms.{Adds, alike, behind, ahead, level, adds, adds-times, adds-signed, adds-plain}
 use Rattle.floats.proofs.Value.{Sized, sized, Valued, valued, worth→value, over}
+use Rattle.floats.proofs.Zero.{NotMinusZero, never, round-plain}
 use Rattle.floats.proofs.Round.{Rounded, rounded, rounded-worth, round-sized, ofInt-round}
 
 -- ---- the library's choice among the cases, for any rounding R
@@ -75,3 +77,39 @@ add-ofInt f k h l = go (worth→value h) (plain k) l
         let (u, c, g) = adds s a t b in
         rw (ofInt-round f t b p, add-sum f h (round-sized f t b l), adds-sum f 1 g, ← adds-signed g)
         (sym (ofInt-round f u c (adds-plain g p)))
+
+-- ---- the sign of a sum that is 0
+-- a float of the format is a multiple of its smallest value
+exponent-low : (f : Format) (s : Bool) (m : ℕ) (e : ℤ) → T (fits f (fin s m e)) → down e ≤ 2 ^ low f
+unfolding fits
+exponent-low f s m (pos k) h = pow-pos (low f)
+exponent-low f s zero (negsuc k) h = let one = eqb→eq (1 * down (negsuc k)) 1 h in omega (arith, pow-pos (low f))
+exponent-low f s (suc m) (negsuc k) h =
+    let d = down (negsuc k) in
+    let kept = eqb (suc m % 2) 1 && ltb (suc m) (2 ^ prec f) in
+    leb→le d (2 ^ low f) (and-r kept (leb d (2 ^ low f)) (and-l (kept && leb d (2 ^ low f)) (ltb (suc m * 1) (2 ^ suc (emax f) * d)) h))
+
+plain-times : (t : Bool) (b d : ℕ) → 0 < d → Plain t b → Plain t (b * d)
+plain-times false b d h p = tt
+plain-times true b d h p = mul-pos p h
+
+-- x plus a whole number without a − before 0: exactly 0 is +0, and any other sum is at least the format's smallest value
+add-sized : (f : Format) (x : Float) {y : Float} {t : Bool} {b : ℕ} → T (fits f x) → Sized y t b → Plain t b → NotMinusZero (add f x y)
+unfolding add
+add-sized f nan h (sized k) p = tt
+add-sized f (inf s) h (sized k) p = tt
+add-sized f (fin s m e) h (sized {s = t} {m = n} {e = d} {a = b} k) p =
+    let (u, c, g) = adds s (m * up e) t (b * down e) in
+    let some = mul-pos (down-pos e) (down-pos d) in
+    let same : sum f s (m * up e * down d) t (n * up d * down e) (down e * down d) ≡ round f u c (down e) =
+    ap (λ (q : ℕ). sum f s (m * up e * down d) t q (down e * down d)) (ap (λ (q : ℕ). q * down e) k ∙ mul-right-comm b (down d) (down e))
+    ∙ adds-sum f (down e * down d) (adds-times (down d) (down-pos d) g)
+    ∙ round-same f u (c * down d) (down e * down d) c (down e) some (down-pos e) (mul-right-comm c (down d) (down e) ∙ mul-assoc c (down e) (down d)) in
+    rw same (round-plain f c (down e) (down-pos e) (exponent-low f s m e h) u (adds-plain g (plain-times t b (down e) (down-pos e) p)))
+
+-- so a float of the format plus an integer is never −0
+pub add-plain : (f : Format) (x : Float) (k : ℤ) → T (fits f x) → natAbs k ≤ 2 ^ prec f → (e : ℤ) → add f x (ofInt f k) ≡ fin true 0 e → ⊥
+add-plain f x k h l = never (go (plain k) l)
+  where
+    go : {k : ℤ} → Plainly k → natAbs k ≤ 2 ^ prec f → NotMinusZero (add f x (ofInt f k))
+    go (plainly t b p) l = rw (ofInt-round f t b p) (add-sized f x h (round-sized f t b l) p)

@@ -1,16 +1,28 @@
--- No integer becomes −0.
-use mathlib.Core.Path.{_≡_, refl, sym, ap, _∙_, subst}
-use mathlib.Core.Bool.{Bool, true, false, not, cond, false≢true}
-use Prim.Native.Nat.{ℕ, zero, suc, _*_, _^_}
-use native.Mathlib.Nat.{zero-lt-suc}
-use native.Mathlib.Omega.{arith}
+-- No number above or below 0 is rounded to −0 unless it is finer than the format's smallest value.
+use mathlib.Core.Path.{_≡_, refl, subst}
+use mathlib.Core.Bool.{Bool, true, false, not, cond}
+use Prim.Native.Nat.{ℕ, zero, suc, _*_, _^_, _≤_, _<_}
+use native.Mathlib.Nat.{mul-le-mul}
 use lib.Dec.{T, ltb}
-use lib.IntN.{ℤ, pos, negsuc}
-use lib.Ieee.{Float, inf, fin, Format, binary32, binary64, prec, low, odd, units, round, neg, ofInt}
+use lib.IntN.{ℤ}
+use lib.Pow.{pow-pos}
+use lib.Ieee.{Float, nan, inf, fin, Format, binary32, binary64, prec, low, odd, units, round, neg}
 use lib.Ieee.Fits.{round-is}
 use lib.Ieee.Order.{round-mono}
 use lib.Ieee.Scale.{overflow}
 use lib.Ieee.Positive.{positive, above, above-of-le}
+use Rattle.floats.proofs.Signs.{Plain}
+
+-- any float but −0
+abbrev pub NotMinusZero : Float → Type 0
+NotMinusZero nan = Unit {0}
+NotMinusZero (inf s) = Unit {0}
+NotMinusZero (fin false m e) = Unit {0}
+NotMinusZero (fin true zero e) = ⊥
+NotMinusZero (fin true (suc m) e) = Unit {0}
+
+pub never : {x : Float} → NotMinusZero x → (e : ℤ) → x ≡ fin true 0 e → ⊥
+never u e q = subst NotMinusZero q u
 
 -- ---- a rounding of the other sign gives the negated float
 neg-odd : (d : ℕ) (s : Bool) (q k l : ℕ) → neg (odd d s q k l) ≡ odd d (not s) q k l
@@ -29,25 +41,41 @@ neg-units f s q k = go (ltb (q * 2 ^ k) (overflow f))
 neg-round : (f : Format) (s : Bool) (a d : ℕ) → neg (round f s a d) ≡ round f (not s) a d
 neg-round f s a d = rw (round-is f s a d, round-is f (not s) a d) (neg-units f s _ _)
 
--- ---- a number above zero rounds to one above zero, for 1 does
-one-positive : (f : Format) → T (positive (round f false 1 1))
+-- ---- from the format's smallest value on a number above zero rounds to one above zero
+least-positive : (f : Format) → T (positive (round f false 1 (2 ^ low f)))
 unfolding round
-one-positive binary32 = tt
-one-positive binary64 = tt
+least-positive binary32 = tt
+least-positive binary64 = tt
 
-round-above : (f : Format) (n : ℕ) → T (above (round f false (suc n) 1))
-round-above f n =
-    above-of-le (round f false 1 1) (round f false (suc n) 1) (one-positive f)
-    (round-mono f 1 1 (suc n) 1 (zero-lt-suc 0) (zero-lt-suc 0) (omega arith))
+above-plain : (x : Float) → T (above (neg x)) → NotMinusZero x
+unfolding neg
+above-plain nan h = tt
+above-plain (inf s) h = tt
+above-plain (fin false m e) h = tt
+above-plain (fin true zero e) h = absurd h
+above-plain (fin true (suc m) e) h = tt
 
-zero-plain : (f : Format) (e : ℤ) → round f false 0 1 ≡ fin true 0 e → ⊥
-unfolding round
-zero-plain binary32 e q = false≢true (cc)
-zero-plain binary64 e q = false≢true (cc)
+-- ---- without a − no rounding has one
+odd-plain : (d q k l : ℕ) → NotMinusZero (odd d false q k l)
+unfolding odd
+odd-plain d zero k l = tt
+odd-plain d (suc q) k l = tt
 
-pub not-minus-zero : (f : Format) (z e : ℤ) → ofInt f z ≡ fin true 0 e → ⊥
-unfolding ofInt
-not-minus-zero f (pos zero) e q = zero-plain f e q
-not-minus-zero f (pos (suc n)) e q = subst (λ (x : Float). T (above x)) q (round-above f n)
-not-minus-zero f (negsuc n) e q =
-    unfold neg in subst (λ (x : Float). T (above x)) (sym (neg-round f true (suc n) 1) ∙ ap neg q) (round-above f n)
+units-plain : (f : Format) (q k : ℕ) → NotMinusZero (units f false q k)
+unfolding units
+units-plain f q k = go (ltb (q * 2 ^ k) (overflow f))
+  where
+    go : (b : Bool) → NotMinusZero (cond b (odd (suc (prec f)) false q k (low f)) (inf false))
+    go true = odd-plain (suc (prec f)) q k (low f)
+    go false = tt
+
+-- a fraction with no − before a 0, in steps no finer than the format's smallest value
+module _ (f : Format) (a d : ℕ) (some : 0 < d) (coarse : d ≤ 2 ^ low f) where
+  round-above : 0 < a → T (above (round f false a d))
+  round-above h =
+      above-of-le (round f false 1 (2 ^ low f)) (round f false a d) (least-positive f)
+      (round-mono f 1 (2 ^ low f) a d (pow-pos (low f)) some (mul-le-mul h coarse))
+
+  pub round-plain : (s : Bool) → Plain s a → NotMinusZero (round f s a d)
+  round-plain false p = rw (round-is f false a d) (units-plain f _ _)
+  round-plain true p = above-plain (round f true a d) (rw (neg-round f true a d) (round-above p))

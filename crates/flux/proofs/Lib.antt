@@ -1,3 +1,4 @@
+-- The theorems of one face: its sizes, its letters, its laws, and the division by a multiplier.
 pub mod Sizes
 pub mod Letters
 pub mod Rounding

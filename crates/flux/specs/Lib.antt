@@ -1,3 +1,4 @@
+-- The definitions of one face: flow and letter, the laws of a flux, the published letters, and the pace.
 pub mod Face
 pub mod Law
 pub mod Letters

@@ -1,39 +1,26 @@
--- Which inputs the two tables refuse nothing of, and what a table's first part leaves to know.
-use mathlib.Core.Path.{_≡_, _∙_, sym, ap}
-use mathlib.Core.List.{List, _++_}
+-- Which inputs the two tables refuse nothing of, what a table's first part leaves to know, and demand 1.
+use mathlib.Core.Path.{_≡_}
+use mathlib.Core.List.{List, [], _∷_, _++_}
 use Prim.Native.Nat.{ℕ, _≤_}
-use native.Mathlib.Nat.{pos-of-ne-zero}
 use native.Mathlib.Omega.{arith}
 use lib.Dec.{lit<}
 use lib.ListN.{length}
-use borrow.Author.Tests.{ltb-false, le-ltb}
-use Rattle.road.specs.Table.{Row, Lowest, passed, judge}
+use borrow.Author.Tests.{ltb-false}
+use Rattle.road.specs.Table.{passed}
 use Rattle.road.specs.Ceilings.{cellsCeiling, horizonCeiling}
-use Rattle.road.specs.Judgement.{roadRows, roadRefusal, Accepted}
+use Rattle.road.specs.Judgement.{roadRows}
 use Rattle.road.specs.declared.Road.{Road}
 use Rattle.road.specs.declared.refusal.Refusal.{Refusal}
-use Rattle.road.proofs.Table.{the-rule, none-holds, passing-append, all-pass, first-part-stands, first-part-passes}
-use Rattle.road.proofs.Acceptance.{accepted-of, road-passing}
+use Rattle.road.proofs.Table.{none-holds, passing-append, all-pass, judged-rows}
+use Rattle.road.proofs.Acceptance.{road-passing}
+use Rattle.road.proofs.Parts.{road-first, part-stands}
 use Rattle.checks.specs.Values.{pairRows}
+use Rattle.checks.specs.Places.{Placed}
 use Rattle.checks.proofs.First.{all-below, none-above}
-use Rattle.checks.proofs.Rows.{cells-low, cells-high, cells-pass, horizon-high, horizon-passes, ups-long, downs-long, ends-pass, output-long, output-passes}
-use Rattle.forecast.specs.Forecast.{listRows, shapeRows, valueRows, shapeRefusal, forecastRows, forecastRefusal, Checked, Judged}
+use Rattle.checks.proofs.Rows.{cells-low, cells-high, cells-pass, horizon-high, horizon-passes, ups-long, downs-long, ends-pass, output-long, output-passes, pair-passes}
+use Rattle.forecast.specs.Forecast.{listRows, shapeRows, valueRows, shapeRefusal, forecastRows, forecastRefusal, Checked, ForecastJudged}
 use Rattle.forecast.specs.Settle.{settleListRows, settleShapeRows, settleShapeRefusal, settleRows, settleRefusal, SettleChecked, SettleJudged}
 use Rattle.forecast.proofs.Places.{forecast-placed, settle-placed}
-
--- a road whose rows stand first in a table that refuses nothing is accepted
-road-first : (r : Road) (more : List Row) → judge (roadRows r ++ more) .number ≡ 0 → Accepted r
-unfolding roadRefusal
-road-first r more e = accepted-of r (first-part-passes (roadRows r) more e)
-
--- the number returned is the lowest that applies
-pub forecast-lowest : (r : Road) (cells ups downs : List ℕ) (t out : ℕ) → Lowest (forecastRows r cells ups downs t out) (forecastRefusal r cells ups downs t out)
-unfolding forecastRefusal
-forecast-lowest r cells ups downs t out = the-rule (forecastRows r cells ups downs t out) tt
-
-pub settle-lowest : (r : Road) (cells : List ℕ) (up down t out : ℕ) → Lowest (settleRows r cells up down t out) (settleRefusal r cells up down t out)
-unfolding settleRefusal
-settle-lowest r cells up down t out = the-rule (settleRows r cells up down t out) tt
 
 module _ (r : Road) (cells ups downs : List ℕ) (t out : ℕ) where
   -- an input that nothing is refused of
@@ -80,9 +67,7 @@ module _ (r : Road) (cells ups downs : List ℕ) (t out : ℕ) where
   -- a refusal of the shape stands
   pub shape-stands : (f : Refusal) → f ≡ shapeRefusal r (length cells) (length ups) (length downs) t out → (f .number ≡ 0 → ⊥) → f ≡ forecastRefusal r cells ups downs t out
   unfolding shapeRefusal forecastRefusal
-  shape-stands f e n =
-      e ∙ sym (first-part-stands (shapeRows r (length cells) (length ups) (length downs) t out) (valueRows r cells ups downs)
-      (rw e at (pos-of-ne-zero n)))
+  shape-stands = part-stands (shapeRows r (length cells) (length ups) (length downs) t out) (valueRows r cells ups downs)
 
   -- the lists are short once the shape is right
   pub shape-short : shapeRefusal r (length cells) (length ups) (length downs) t out .number ≡ 0
@@ -122,36 +107,25 @@ module _ (r : Road) (cells : List ℕ) (up down t out : ℕ) where
           horizon-passes t (c .horizon-high),
           (output-passes (length cells) out (c .output-long), tt),
         ),
-      )) (
-        none-above (r .jam) cells (c .cells-below),
-        (
-          le-ltb (r .jam) up (c .up-below),
-          (le-ltb (r .jam) down (c .down-below), tt),
-        ),
-      ))
+      )) (pair-passes r cells up down (c .cells-below) (c .up-below) (c .down-below)))
 
   pub settle-shape-stands : (f : Refusal) → f ≡ settleShapeRefusal r (length cells) t out → (f .number ≡ 0 → ⊥) → f ≡ settleRefusal r cells up down t out
   unfolding settleShapeRefusal settleRefusal
-  settle-shape-stands f e n =
-      e ∙ sym (first-part-stands (settleShapeRows r (length cells) t out) (pairRows r cells up down) (rw e at (pos-of-ne-zero n)))
+  settle-shape-stands = part-stands (settleShapeRows r (length cells) t out) (pairRows r cells up down)
 
   pub settle-shape-short : settleShapeRefusal r (length cells) t out .number ≡ 0 → length cells ≤ cellsCeiling
   unfolding settleShapeRefusal
   settle-shape-short e = cells-high (length cells) (none-holds (settleShapeRows r (length cells) t out) tt e 4 (lit< tt))
 
 -- demand 1 of both judgements
-pub forecast-judged : (r : Road) (cells ups downs : List ℕ) (t out : ℕ) → Judged r cells ups downs t out (forecastRefusal r cells ups downs t out)
-forecast-judged r cells ups downs t out = record {
-  lowest = forecast-lowest r cells ups downs t out;
-  placed = forecast-placed r cells ups downs t out;
-  accepted = checked-of r cells ups downs t out;
-  no-other = λ c. ap (λ (f : Refusal). f .number) (checked-passes r cells ups downs t out c);
-}
+pub forecast-judged : (r : Road) (cells ups downs : List ℕ) (t out : ℕ) → ForecastJudged r cells ups downs t out (forecastRefusal r cells ups downs t out)
+unfolding forecastRefusal
+forecast-judged r cells ups downs t out =
+    judged-rows (forecastRows r cells ups downs t out) tt (Placed r cells ups downs)
+    (forecast-placed r cells ups downs t out) (checked-of r cells ups downs t out) (checked-passes r cells ups downs t out)
 
 pub settle-judged : (r : Road) (cells : List ℕ) (up down t out : ℕ) → SettleJudged r cells up down t out (settleRefusal r cells up down t out)
-settle-judged r cells up down t out = record {
-  lowest = settle-lowest r cells up down t out;
-  placed = settle-placed r cells up down t out;
-  accepted = settle-checked-of r cells up down t out;
-  no-other = λ c. ap (λ (f : Refusal). f .number) (settle-checked-passes r cells up down t out c);
-}
+unfolding settleRefusal
+settle-judged r cells up down t out =
+    judged-rows (settleRows r cells up down t out) tt (Placed r cells (up ∷ []) (down ∷ []))
+    (settle-placed r cells up down t out) (settle-checked-of r cells up down t out) (settle-checked-passes r cells up down t out)

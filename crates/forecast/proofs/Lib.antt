@@ -1,3 +1,4 @@
+-- The theorems of Level 1: which inputs are accepted, what is answered, and what a chain of calls keeps for ever.
 pub mod Checked
 pub mod Answers
 pub mod Copied

@@ -5,18 +5,18 @@ use Prim.Native.Nat.{ℕ, _+_, _-_, _*_, _^_, _≤_}
 use lib.Dec.{eqb}
 use lib.ListN.{length}
 use Rattle.road.specs.Choice.{pick}
-use Rattle.road.specs.Table.{Row, row, judge, refused, Lowest}
+use Rattle.road.specs.Table.{Row, row, judge, refused, Judged}
 use Rattle.road.specs.Ceilings.{cellsCeiling, horizonCeiling}
 use Rattle.road.specs.Judgement.{roadRows, Accepted}
 use Rattle.road.specs.declared.Road.{Road}
 use Rattle.road.specs.declared.refusal.Refusal.{Refusal}
 use Rattle.checks.specs.Lists.{badCells, badHorizon, badEnds, badOutput}
 use Rattle.checks.specs.Values.{firstAbove, anyAbove}
+use Rattle.checks.specs.Places.{Placed}
 use Rattle.scheme.specs.Sums.{sum, distance, times, Below}
 use Rattle.scheme.specs.Rounded.{roundRun, entered, left}
 use Rattle.scheme.specs.Exact.{exactRun}
 use Rattle.scheme.specs.declared.many_steps.Totals.{Totals}
-use Rattle.forecast.specs.Places.{Placed}
 use Rattle.forecast.specs.declared.forecasting.ForecastAnswer.{ForecastAnswer}
 use Rattle.forecast.specs.declared.forecasting.ForecastAnswer.the-variants.{Done, Refused}
 
@@ -92,12 +92,9 @@ pub record Checked (r : Road) (cells ups downs : List ℕ) (t out : ℕ) : Type 
   pub ups-below : Below (r .jam) ups
   pub downs-below : Below (r .jam) downs
 
--- demand 1 of a refusal (number 0 for none): the lowest number that applies, at the place that the table says; none exactly where the input is checked
-pub record Judged (r : Road) (cells ups downs : List ℕ) (t out : ℕ) (f : Refusal) : Type 0 where
-  pub lowest : Lowest (forecastRows r cells ups downs t out) f
-  pub placed : Placed r cells ups downs f
-  pub accepted : f .number ≡ 0 → Checked r cells ups downs t out
-  pub no-other : Checked r cells ups downs t out → f .number ≡ 0
+-- demand 1 of a refusal, of the forecast's rows
+abbrev pub ForecastJudged : Road → List ℕ → List ℕ → List ℕ → ℕ → ℕ → Refusal → Type 0
+ForecastJudged r cells ups downs t out f = Judged (forecastRows r cells ups downs t out) (Checked r cells ups downs t out) (Placed r cells ups downs) f
 
 -- demand 3 of the commission, of what the output holds at exit with the answer's entered and left, on n cells and T steps
 pub record Demand3 (r : Road) (cells ups downs : List ℕ) (t : ℕ) (next : List ℕ) (in-sum out-sum : ℕ) : Type 0 where
@@ -120,5 +117,5 @@ pub record Forecasts (r : Road) (cells ups downs : List ℕ) (t : ℕ) (out next
   pub answer : a ≡ forecastAnswer r cells ups downs t (length out)
   pub means : meaning a ≡ forecastMeaning r cells ups downs t (length out)
   pub output : next ≡ forecastCells r cells ups downs t out
-  pub judged : Judged r cells ups downs t (length out) (refused (meaning a .number) (meaning a .place))
+  pub judged : ForecastJudged r cells ups downs t (length out) (refused (meaning a .number) (meaning a .place))
   pub demand3 : (d : Totals) → a ≡ Done d → Demand3 r cells ups downs t next (d .entered) (d .left)

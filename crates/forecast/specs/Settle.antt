@@ -6,17 +6,17 @@ use Prim.Native.Nat.{ℕ, _≤_}
 use lib.Dec.{eqb}
 use lib.ListN.{length}
 use Rattle.road.specs.Choice.{pick}
-use Rattle.road.specs.Table.{Row, row, judge, refused, Lowest}
+use Rattle.road.specs.Table.{Row, row, judge, refused, Judged}
 use Rattle.road.specs.Ceilings.{cellsCeiling, horizonCeiling}
 use Rattle.road.specs.Judgement.{roadRows, Accepted}
 use Rattle.road.specs.declared.Road.{Road}
 use Rattle.road.specs.declared.refusal.Refusal.{Refusal}
 use Rattle.checks.specs.Lists.{badCells, badHorizon, badOutput}
 use Rattle.checks.specs.Values.{pairRows}
+use Rattle.checks.specs.Places.{Placed}
 use Rattle.scheme.specs.Sums.{Below}
 use Rattle.scheme.specs.Settling.{after, settles, settleSteps, settleCells, LeastStill}
 use Rattle.scheme.specs.declared.settling.Settled.{Settled}
-use Rattle.forecast.specs.Places.{Placed}
 use Rattle.forecast.specs.declared.settling.SettleAnswer.{SettleAnswer}
 use Rattle.forecast.specs.declared.settling.SettleAnswer.the-variants.{Done, Refused}
 
@@ -81,12 +81,10 @@ pub record SettleChecked (r : Road) (cells : List ℕ) (up down t out : ℕ) : T
   pub up-below : up ≤ r .jam
   pub down-below : down ≤ r .jam
 
--- demand 1 of a refusal (number 0 for none), of the settling run's rows; the one end pair stands at place 0
-pub record SettleJudged (r : Road) (cells : List ℕ) (up down t out : ℕ) (f : Refusal) : Type 0 where
-  pub lowest : Lowest (settleRows r cells up down t out) f
-  pub placed : Placed r cells (up ∷ []) (down ∷ []) f
-  pub accepted : f .number ≡ 0 → SettleChecked r cells up down t out
-  pub no-other : SettleChecked r cells up down t out → f .number ≡ 0
+-- demand 1 of a refusal, of the settling run's rows; the one end pair stands at place 0
+abbrev pub SettleJudged : Road → List ℕ → ℕ → ℕ → ℕ → ℕ → Refusal → Type 0
+SettleJudged r cells up down t out f =
+    Judged (settleRows r cells up down t out) (SettleChecked r cells up down t out) (Placed r cells (up ∷ []) (down ∷ [])) f
 
 -- what an accepted run reports and hands back: the least k below T such that step k+1 is still, or T; the state after those steps, in range
 pub record Settlement (r : Road) (cells : List ℕ) (up down t : ℕ) (next : List ℕ) (s : Settled) : Type 0 where

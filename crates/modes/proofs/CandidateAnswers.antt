@@ -1,4 +1,4 @@
--- The candidate's answers, accepted and refused, and that on whole estimates the numerator is the whole row's value.
+-- The candidate's answers, accepted and refused; the numerator is never −0.0, and on whole estimates it is the whole row's value.
 use mathlib.Core.Path.{_≡_, _∙_, refl, sym, ap, subst}
 use mathlib.Core.Bool.{Bool, true, false}
 use Prim.Native.Nat.{ℕ, _+_, _*_, _^_, _≤_}
@@ -6,28 +6,31 @@ use native.Mathlib.Nat.{le-trans, mul-le-mul}
 use native.Mathlib.Omega.{arith}
 use lib.Dec.{lit<, lit≤, eqb}
 use lib.IntN.{ℤ, pos, natAbs}
-use lib.Ieee.{Float, binary64, prec, ne, lt, ofInt, ofBits}
+use lib.Ieee.{Float, fin, binary64, prec, ne, lt, ofInt, ofBits}
+use lib.Ieee.Fits.{add-fits}
 use borrow.Author.Tests.{eq-eqb, ne-eqb}
 use Rattle.road.specs.Choice.{pick, or}
 use Rattle.road.specs.Ceilings.{divisorCeiling}
-use Rattle.road.specs.Table.{Row, Lowest, passed}
+use Rattle.road.specs.Table.{Row, passed}
 use Rattle.road.specs.Judgement.{roadRows, Accepted}
 use Rattle.road.specs.declared.Road.{Road}
 use Rattle.road.specs.declared.refusal.Refusal.{Refusal}
-use Rattle.road.proofs.Table.{the-rule, none-holds, nothing-refused, row-returned, passing-append, all-pass}
+use Rattle.road.proofs.Table.{none-holds, nothing-refused, row-returned, passing-append, all-pass, judged-rows}
 use Rattle.road.proofs.Acceptance.{road-passing}
 use Rattle.road.proofs.Choice.{or-left, or-right, neither, from-low, to-high, inside}
+use Rattle.road.proofs.Parts.{road-first}
 use Rattle.floats.specs.Worth.{Worth, Passes}
 use Rattle.floats.proofs.Round.{ofInt-worth}
 use Rattle.floats.proofs.Row.{row-exact}
 use Rattle.floats.proofs.Within.{within}
-use Rattle.floats.proofs.Zero.{not-minus-zero}
-use Rattle.modes.specs.declared.candidates.Prediction.{Prediction}
+use Rattle.floats.proofs.Sum.{add-plain}
+use Rattle.modes.specs.declared.candidates.CandidateResult.{CandidateResult}
 use Rattle.modes.specs.declared.candidates.CandidateAnswer.{CandidateAnswer}
 use Rattle.modes.specs.declared.candidates.CandidateAnswer.the-variants.{Done, Refused}
 use Rattle.modes.specs.Modes.{rowValue}
+use Rattle.modes.specs.Places.{EstimatePlaced}
+use Rattle.modes.specs.Coefficients.{leftCoefficient, ownCoefficient, rightCoefficient, constantOf}
 use Rattle.modes.specs.Candidate as C
-use Rattle.modes.proofs.Parts.{road-first}
 use Rattle.modes.proofs.Sizes.{largest, row-small}
 use Rattle.modes.proofs.Coefficients.{left-small, own-small, right-small, constant-small, row-split}
 
@@ -44,14 +47,7 @@ of-passes j x p =
     neither (ne x x) (or (lt x (ofBits binary64 0)) (lt (ofInt binary64 (pos j)) x)) (p .known)
     (neither (lt x (ofBits binary64 0)) (lt (ofInt binary64 (pos j)) x) (p .low) (p .high))
 
--- a place that 14 reports: the estimate there is bad, and no earlier one is
-pub record EstimatePlaced (left own right : Bool) (place : ℕ) : Type 0 where
-  pub low : 1 ≤ place
-  pub high : place ≤ 3
-  pub first : place ≡ 1 → left ≡ true
-  pub second : place ≡ 2 → (left ≡ false) × (own ≡ true)
-  pub third : place ≡ 3 → (left ≡ false) × (own ≡ false) × (right ≡ true)
-
+-- the place of 14
 estimate-placed : (a b c : Bool) → or a (or b c) ≡ true → EstimatePlaced a b c (pick a 1 (pick b 2 3))
 estimate-placed true b c e =
     record { low = lit≤ tt; high = lit≤ tt; first = λ q. refl; second = λ q. absurd (omega arith); third = λ q. absurd (omega arith) }
@@ -61,13 +57,7 @@ estimate-placed false false c e =
     record { low = lit≤ tt; high = lit≤ tt; first = λ q. absurd (omega arith); second = λ q. absurd (omega arith); third = λ q. (refl, refl, e) }
 
 module _ (r : Road) (mode : ℕ) (left own right : Float) where
-  -- the number returned is the lowest that applies
-  pub candidate-lowest : Lowest (C.candidateRows r mode left own right) (C.candidateRefusal r mode left own right)
-  unfolding C.candidateRefusal
-  candidate-lowest = the-rule (C.candidateRows r mode left own right) tt
-
-  pub candidate-placed : C.candidateRefusal r mode left own right .number ≡ 14
-      → EstimatePlaced (C.badEstimate (r .jam) left) (C.badEstimate (r .jam) own) (C.badEstimate (r .jam) right) (C.candidateRefusal r mode left own right .place)
+  candidate-placed : C.CandidatePlaced r left own right (C.candidateRefusal r mode left own right)
   unfolding C.candidateRefusal
   candidate-placed e =
       let back = row-returned (C.candidateRows r mode left own right) tt 5 (lit< tt) e in
@@ -110,6 +100,15 @@ module _ (r : Road) (mode : ℕ) (left own right : Float) where
         ),
       ))
 
+  -- demand 1 of the judgement
+  candidate-judged : C.CandidateJudged r mode left own right (C.candidateRefusal r mode left own right)
+  unfolding C.candidateRefusal
+  candidate-judged =
+      judged-rows (C.candidateRows r mode left own right) tt (C.CandidatePlaced r left own right)
+      candidate-placed
+      candidate-checked-of
+      candidate-checked-passes
+
   -- a whole estimate of an accepted call is a natural up to jam
   pub whole-estimate : Accepted r → (x : Float) (z : ℤ) → Passes binary64 (r .jam) x → Worth x z → (n : ℕ) × (z ≡ pos n) × (n ≤ r .jam)
   whole-estimate ok x z p w = within (le-trans (ok .jam-high) (lit≤ tt)) w p
@@ -119,6 +118,13 @@ module _ (r : Road) (mode : ℕ) (left own right : Float) where
       let (k, e, h) = whole-estimate ok x (pos n) p w in
       let same : n ≡ k = ap natAbs e in
       omega arith
+
+  -- the numerator is never −0.0: the last addition is that of a whole constant
+  never-minus-zero : C.CandidateChecked r mode left own right → (e : ℤ) → C.candidateNumerator r mode left own right ≡ fin true 0 e → ⊥
+  unfolding C.rowFor
+  never-minus-zero c =
+      add-plain binary64 _ (constantOf r mode) (add-fits binary64 _ _)
+      (le-trans (constant-small mode (c .mode-low) (c .mode-high) r (c .accepted)) (lit≤ tt))
 
   -- on whole estimates the numerator is the row's value, exactly
   module _ (c : C.CandidateChecked r mode left own right) (l o t : ℕ) (l-is : Worth left (pos l)) (o-is : Worth own (pos o)) (t-is : Worth right (pos t)) where
@@ -131,7 +137,7 @@ module _ (r : Road) (mode : ℕ) (left own right : Float) where
         let p₃ = mul-le-mul (le-trans (natural (c .accepted) right t (c .right-passes) t-is) high) b₃ in
         omega arith
 
-    same-row : C.predicted r mode left own right ≡ ofInt binary64 (rowValue r mode l o t)
+    same-row : C.candidateNumerator r mode left own right ≡ ofInt binary64 (rowValue r mode l o t)
     unfolding C.rowFor
     same-row =
         let ok = c .accepted in
@@ -139,17 +145,16 @@ module _ (r : Road) (mode : ℕ) (left own right : Float) where
         let b₂ = own-small mode (c .mode-low) (c .mode-high) r ok in
         let b₃ = right-small mode (c .mode-low) (c .mode-high) r ok in
         let b₀ = constant-small mode (c .mode-low) (c .mode-high) r ok in
-        row-exact binary64 (C.leftCoefficient r mode) (C.ownCoefficient r mode) (C.rightCoefficient r mode) (C.constantOf r mode)
+        row-exact binary64 (leftCoefficient r mode) (ownCoefficient r mode) (rightCoefficient r mode) (constantOf r mode)
         l-is o-is t-is (le-trans b₁ (lit≤ tt)) (le-trans b₂ (lit≤ tt)) (le-trans b₃ (lit≤ tt))
-        (total (C.leftCoefficient r mode) (C.ownCoefficient r mode) (C.rightCoefficient r mode) (C.constantOf r mode) b₁ b₂ b₃ b₀)
+        (total (leftCoefficient r mode) (ownCoefficient r mode) (rightCoefficient r mode) (constantOf r mode) b₁ b₂ b₃ b₀)
         ∙ ap (ofInt binary64) (sym (row-split r ok mode (c .mode-low) (c .mode-high) l o t
         (natural ok left l (c .left-passes) l-is) (natural ok own o (c .own-passes) o-is) (natural ok right t (c .right-passes) t-is)))
 
-    pub whole-row : C.Whole (C.predicted r mode left own right) (rowValue r mode l o t)
+    pub whole-row : C.Whole (C.candidateNumerator r mode left own right) (rowValue r mode l o t)
     whole-row = record {
       same = same-row;
       worth = rw same-row (ofInt-worth binary64 (rowValue r mode l o t) (le-trans small (lit≤ tt)));
-      plain = λ e q. not-minus-zero binary64 (rowValue r mode l o t) e (sym same-row ∙ q);
     }
       where
         small : natAbs (rowValue r mode l o t) ≤ 8 * largest
@@ -160,8 +165,11 @@ module _ (r : Road) (mode : ℕ) (left own right : Float) where
             mode (c .mode-low) (c .mode-high)
 
 -- what an accepted answer carries is what it says
-same-prediction : {p q : Prediction} → _≡_ {A = CandidateAnswer} (Done p) (Done q) → p ≡ q
-same-prediction e = cc
+same-result : {p q : CandidateResult} → _≡_ {A = CandidateAnswer} (Done p) (Done q) → p ≡ q
+same-result e = cc
+
+same-numerator : {x : Float} {p : CandidateResult} → _≡_ {A = CandidateAnswer} (Done (record { numerator = x })) (Done p) → x ≡ p .numerator
+same-numerator e = ap (λ (s : CandidateResult). s .numerator) (same-result e)
 
 module _ (r : Road) (mode : ℕ) (left own right : Float) where
   -- refused: the number and place of the table
@@ -173,20 +181,23 @@ module _ (r : Road) (mode : ℕ) (left own right : Float) where
       record {
         answer = rw no (ap Refused e);
         means = rw no (ap (λ (g : Refusal). C.meaning (Refused g)) e);
+        judged = rw (← e) at (candidate-judged r mode left own right);
         exact = λ p q. let z : _≡_ {A = ℕ} 0 1 = cc q in absurd (omega arith);
+        plain = λ p q. let z : _≡_ {A = ℕ} 0 1 = cc q in absurd (omega arith);
       }
 
   -- accepted: the row applied
-  pub candidate-done : C.candidateRefusal r mode left own right .number ≡ 0 → (x : Float) → x ≡ C.predicted r mode left own right
+  pub candidate-done : C.candidateRefusal r mode left own right .number ≡ 0 → (x : Float) → x ≡ C.candidateNumerator r mode left own right
       → C.Candidates r mode left own right (Done (record { numerator = x }))
   unfolding C.candidateAnswer C.candidateMeaning C.candidateRefusal
   candidate-done e x is =
       let yes-it-is : eqb (C.candidateRefusal r mode left own right .number) 0 ≡ true = eq-eqb _ 0 e in
       let nothing : C.candidateRefusal r mode left own right ≡ passed = nothing-refused (C.candidateRows r mode left own right) tt e in
+      let checked = candidate-checked-of r mode left own right e in
       record {
         answer = rw yes-it-is (λ i. Done (record { numerator = is i }));
         means = rw yes-it-is (λ i. record { number = sym nothing i .number; place = sym nothing i .place; value = is i });
-        exact = λ p q l o t l-is o-is t-is.
-            let numerators : x ≡ p .numerator = ap (λ (s : Prediction). s .numerator) (same-prediction q) in
-            rw (sym numerators ∙ is) (whole-row r mode left own right (candidate-checked-of r mode left own right e) l o t l-is o-is t-is);
+        judged = rw nothing at (candidate-judged r mode left own right);
+        exact = λ p q l o t l-is o-is t-is. rw (sym (same-numerator q) ∙ is) (whole-row r mode left own right checked l o t l-is o-is t-is);
+        plain = λ p q. rw (sym (same-numerator q) ∙ is) (never-minus-zero r mode left own right checked);
       }

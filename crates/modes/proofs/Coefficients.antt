@@ -1,21 +1,25 @@
 -- The candidate row in whole numbers: how large its numbers are, how the code reaches them, and that they split a row's value.
 use mathlib.Core.Path.{_≡_, refl, ap, ap₂, sym, _∙_}
 use mathlib.Core.Bool.{true, false}
-use Prim.Native.Nat.{ℕ, suc, _+_, _*_, _≤_, _<_}
-use native.Mathlib.Nat.{le-refl, le-of-lt, le-trans, mul-assoc, mul-comm}
+use mathlib.Core.List.{List}
+use Prim.Native.Nat.{ℕ, suc, _+_, _-_, _*_, _≤_, _<_}
+use native.Mathlib.Nat.{le-refl, le-of-lt, le-trans, mul-assoc, mul-comm, mul-le-mul}
 use native.Mathlib.Omega.{arith}
 use lib.Dec.{lit<, lit≤}
 use lib.IntN.{ℤ, pos, negsuc, negℤ, _+ℤ_, _*ℤ_, natAbs, +ℤ-assoc, +ℤ-comm, *ℤ-comm}
 use mir.Syntax.{w64}
 use mir.Val.{SFits, toZ, ofZ}
-use Rattle.road.specs.Ceilings.{divisorCeiling}
+use Rattle.road.specs.Ceilings.{divisorCeiling, jamCeiling}
 use Rattle.road.specs.Judgement.{Accepted}
 use Rattle.road.specs.declared.Road.{Road}
+use lib.ListN.{getD}
 use Rattle.floats.proofs.Signs.{signed-mul}
 use Rattle.modes.specs.Modes.{terms, rowValue}
-use Rattle.modes.specs.Candidate.{entry, leftCoefficient, ownCoefficient, rightCoefficient, constantOf}
-use Rattle.modes.proofs.Integers.{natAbs-sum, +ℤ-times}
-use Rattle.modes.proofs.Sizes.{largest, sumTo, sum-row, fits, kept, entry-times, free-small, wave-small}
+use Rattle.modes.specs.Coefficients.{entry, leftCoefficient, ownCoefficient, rightCoefficient, constantOf, wholeRow, wholeRows, appliedTo, Sized}
+use Rattle.modes.specs.declared.numerators.WholeRow.{WholeRow}
+use Rattle.modes.proofs.Integers.{natAbs-sum, natAbs-times, +ℤ-times}
+use Rattle.modes.proofs.Seven.{each-mode}
+use Rattle.modes.proofs.Sizes.{largest, sumTo, sum-row, fits, kept, kept-pos, entry-times, free-small, wave-small}
 
 -- a term as the code has it, by the natural that it is shown to be
 pub asked : {t : ℤ} {n : ℕ} → t ≡ pos n → n ≤ largest → natAbs t ≤ largest
@@ -97,6 +101,67 @@ module _ (mode : ℕ) (low : 1 ≤ mode) (high : mode ≤ 7) where
         (three-small (entry mode 4 *ℤ pos (r .wave * r .critical)) (entry mode 5 *ℤ pos (r .free * r .critical)) (entry mode 6 *ℤ pos (r .wave * r .jam)))
         constant-sizes
 
+    pub sized : Sized (wholeRow r mode)
+    unfolding wholeRow
+    sized = record { left-small = left-small; own-small = own-small; right-small = right-small; constant-small = constant-small }
+
+-- a density times a coefficient, as the code has them
+module _ {n : ℕ} (k : ℤ) {bound : ℕ} (h : n ≤ jamCeiling) (g : natAbs k ≤ bound) (few : bound ≤ 3 * divisorCeiling) where
+  pub times-small : natAbs (pos n *ℤ k) ≤ jamCeiling * bound
+  times-small = rw natAbs-times (mul-le-mul h g)
+
+  same-times : toZ w64 n *ℤ toZ w64 (ofZ w64 k) ≡ pos n *ℤ k
+  same-times = ap₂ _*ℤ_ (kept-pos n (le-trans h (lit≤ tt))) (kept {z = k} {w = k} refl (le-trans g (le-trans few (lit≤ tt))))
+
+  fitting : natAbs (pos n *ℤ k) ≤ 8 * largest
+  fitting = le-trans times-small (le-trans (mul-le-mul (le-refl jamCeiling) few) (lit≤ tt))
+
+  pub times-fits : SFits w64 (toZ w64 n *ℤ toZ w64 (ofZ w64 k))
+  times-fits = fits same-times fitting
+
+  pub times-kept : toZ w64 (ofZ w64 (toZ w64 n *ℤ toZ w64 (ofZ w64 k))) ≡ pos n *ℤ k
+  times-kept = kept same-times fitting
+
+-- a row applied: every product and every sum fits, and the last is read back
+module _ (row : WholeRow) (small : Sized row) (left own right : ℕ) (l : left ≤ jamCeiling) (o : own ≤ jamCeiling) (t : right ≤ jamCeiling) where
+  parts : natAbs (pos left *ℤ row .left) + natAbs (pos own *ℤ row .own) + natAbs (pos right *ℤ row .right) + natAbs (row .constant) ≤ 8 * largest
+  parts =
+      let a : natAbs (pos left *ℤ row .left) ≤ largest = le-trans (times-small (row .left) l (small .left-small) (lit≤ tt)) (lit≤ tt) in
+      let b : natAbs (pos own *ℤ row .own) ≤ 3 * largest = le-trans (times-small (row .own) o (small .own-small) (lit≤ tt)) (lit≤ tt) in
+      let c : natAbs (pos right *ℤ row .right) ≤ largest = le-trans (times-small (row .right) t (small .right-small) (lit≤ tt)) (lit≤ tt) in
+      let d = small .constant-small in
+      omega arith
+
+  first-three : natAbs (pos left *ℤ row .left) + natAbs (pos own *ℤ row .own) + natAbs (pos right *ℤ row .right) ≤ 8 * largest
+  first-three = omega (arith, parts)
+
+  pub applied-small : natAbs (appliedTo row left own right) ≤ 8 * largest
+  unfolding appliedTo
+  applied-small =
+      omega (
+        arith,
+        parts,
+        three-small (pos left *ℤ row .left) (pos own *ℤ row .own) (pos right *ℤ row .right),
+        natAbs-sum (pos left *ℤ row .left +ℤ pos own *ℤ row .own +ℤ pos right *ℤ row .right) (row .constant),
+      )
+
+  module _ {x y z w : ℤ} (e : x ≡ pos left *ℤ row .left) (q : y ≡ pos own *ℤ row .own) (s : z ≡ pos right *ℤ row .right) (u : w ≡ row .constant) where
+    all-four : toZ w64 (ofZ w64 (toZ w64 (ofZ w64 (x +ℤ y)) +ℤ z)) +ℤ w ≡ appliedTo row left own right
+    unfolding appliedTo
+    all-four = ap₂ _+ℤ_ (three-kept e q s first-three) u
+
+    pub add-first : SFits w64 (x +ℤ y)
+    add-first = first-fits e q s first-three
+
+    pub add-second : SFits w64 (toZ w64 (ofZ w64 (x +ℤ y)) +ℤ z)
+    add-second = both-fit e q s first-three
+
+    pub add-third : SFits w64 (toZ w64 (ofZ w64 (toZ w64 (ofZ w64 (x +ℤ y)) +ℤ z)) +ℤ w)
+    add-third = fits all-four applied-small
+
+    pub applied-kept : toZ w64 (ofZ w64 (toZ w64 (ofZ w64 (toZ w64 (ofZ w64 (x +ℤ y)) +ℤ z)) +ℤ w)) ≡ appliedTo row left own right
+    applied-kept = kept all-four applied-small
+
 -- a multiplier times a speed times a density, the density taken out
 taken-out : (k : ℤ) (speed x : ℕ) → k *ℤ pos (speed * x) ≡ pos x *ℤ (k *ℤ pos speed)
 taken-out (pos a) speed x = ap pos (sym (mul-assoc a speed x) ∙ mul-comm (a * speed) x)
@@ -137,3 +202,21 @@ row-split r ok mode low high left own right l o t =
         (ap₂ _+ℤ_ (ap pos (mul-comm (r .divisor) own)) (taken-out (entry mode 1) (r .free) own))
         (taken-out (entry mode 2) (r .wave) own)
         ∙ sym (times-three (pos own) (pos (r .divisor)) (entry mode 1 *ℤ pos (r .free)) (entry mode 2 *ℤ pos (r .wave)))
+
+-- a row that the code reads in the list of all rows, at its mode's place
+module _ (r : Road) (ok : Accepted r) {rows : List WholeRow} (e : rows ≡ wholeRows r) (d : WholeRow) (mode : ℕ) (low : 1 ≤ mode) (high : mode ≤ 7) where
+  row-read : getD rows (mode - 1) d ≡ wholeRow r mode
+  unfolding wholeRows
+  row-read = e′ ∙ each-mode (λ (m : ℕ). getD (wholeRows r) (m - 1) d ≡ wholeRow r m) refl refl refl refl refl refl refl mode low high
+    where
+      e′ : getD rows (mode - 1) d ≡ getD (wholeRows r) (mode - 1) d
+      e′ = ap (λ (l : List WholeRow). getD l (mode - 1) d) e
+
+  pub read-sized : Sized (getD rows (mode - 1) d)
+  read-sized = rw row-read (sized mode low high r ok)
+
+  pub read-applied : (left own right : ℕ) → left ≤ r .jam → own ≤ r .jam → right ≤ r .jam
+      → appliedTo (getD rows (mode - 1) d) left own right ≡ rowValue r mode left own right
+  unfolding wholeRow appliedTo
+  read-applied left own right l o t =
+      ap (λ (row : WholeRow). appliedTo row left own right) row-read ∙ sym (row-split r ok mode low high left own right l o t)

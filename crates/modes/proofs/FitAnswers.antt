@@ -1,47 +1,39 @@
 -- The fit test's judgement and its answers: which inputs no row refuses, what is reported of them, and what of the others.
 use mathlib.Core.Path.{_≡_, _∙_, refl, sym, ap}
 use mathlib.Core.Bool.{true, false}
-use mathlib.Core.List.{List, [], _∷_, _++_}
+use mathlib.Core.List.{List, _∷_}
 use Prim.Native.Nat.{ℕ, _+_, _≤_}
 use lib.Dec.{eqb, lit<}
 use lib.ListN.{length}
-use borrow.Author.Tests.{eq-eqb, ne-eqb, ltb-false, le-ltb}
+use borrow.Author.Tests.{eq-eqb, ne-eqb, ltb-false}
 use Rattle.road.specs.Ceilings.{cellsCeiling}
-use Rattle.road.specs.Table.{Row, row, passed, Lowest}
+use Rattle.road.specs.Table.{row, passed}
 use Rattle.road.specs.Judgement.{roadRows}
 use Rattle.road.specs.declared.Road.{Road}
 use Rattle.road.specs.declared.refusal.Refusal.{Refusal}
-use Rattle.road.proofs.Table.{the-rule, none-holds, passing-append, all-pass, nothing-refused}
+use Rattle.road.proofs.Table.{none-holds, passing-append, all-pass, nothing-refused, judged-rows}
 use Rattle.road.proofs.Acceptance.{road-passing}
+use Rattle.road.proofs.Parts.{road-first, part-stands}
 use Rattle.checks.specs.Lists.{badCells}
-use Rattle.checks.specs.Values.{pairRows}
-use Rattle.checks.proofs.First.{all-below, none-above}
+use Rattle.checks.proofs.First.{all-below}
 use Rattle.checks.proofs.Rows.{cells-low, cells-high, cells-pass}
 use Rattle.scheme.specs.Word.{wordOf}
-use Rattle.modes.specs.Judging.{badWord, wordPlace, fitShapeRows, fitRows, fitRefusal}
-use Rattle.modes.specs.Fit.{firstMisfit, allHold, misfitFace, fitAnswer, meaning, fitMeaning, fitShapeRefusal, FitChecked, Compared, Fits}
+use Rattle.modes.specs.Judging.{pairWordRows, fitShapeRows, fitRows, fitRefusal}
+use Rattle.modes.specs.Places.{PairWordPlaced}
+use Rattle.modes.specs.Fit.{firstMisfit, allHold, misfitFace, fitAnswer, meaning, fitMeaning, fitShapeRefusal, FitChecked, FitJudged, Compared, Fits}
 use Rattle.modes.specs.declared.fitting.FitResult.{FitResult}
 use Rattle.modes.specs.declared.fitting.FitAnswer.the-variants.{Done, Refused}
-use Rattle.modes.proofs.Parts.{road-first, part-stands}
-use Rattle.modes.proofs.WordRow.{word-long, word-legal, word-passes}
-
--- the rows below the shape's
-abbrev valueRows : Road → List ℕ → ℕ → ℕ → List ℕ → List Row
-valueRows r cells up down word = pairRows r cells up down ++ (row (badWord (length cells) word) 12 (wordPlace (length cells) word) ∷ [])
+use Rattle.modes.proofs.WordRow.{word-long, word-legal, pair-word-passes, pair-word-placed}
+use Rattle.modes.proofs.Misfits.{own-long, same-word, other-word}
 
 module _ (r : Road) (cells : List ℕ) (up down : ℕ) (word : List ℕ) where
-  -- the number returned is the lowest that applies
-  pub fit-lowest : Lowest (fitRows r cells up down word) (fitRefusal r cells up down word)
-  unfolding fitRefusal
-  fit-lowest = the-rule (fitRows r cells up down word) tt
-
   -- an input that nothing is refused of
   pub checked-of : fitRefusal r cells up down word .number ≡ 0 → FitChecked r cells up down word
   unfolding fitRefusal
   checked-of e =
       let no = none-holds (fitRows r cells up down word) tt e in
       record {
-        accepted = road-first r (row (badCells (length cells)) 5 0 ∷ valueRows r cells up down word) e;
+        accepted = road-first r (row (badCells (length cells)) 5 0 ∷ pairWordRows r cells up down word) e;
         cells-low = cells-low (length cells) (no 4 (lit< tt));
         cells-high = cells-high (length cells) (no 4 (lit< tt));
         cells-below = all-below (r .jam) cells (no 5 (lit< tt));
@@ -56,24 +48,24 @@ module _ (r : Road) (cells : List ℕ) (up down : ℕ) (word : List ℕ) where
   unfolding fitRefusal
   checked-passes c =
       all-pass (fitRows r cells up down word)
-      (passing-append (roadRows r) (row (badCells (length cells)) 5 0 ∷ valueRows r cells up down word) (road-passing r (c .accepted)) (
+      (passing-append (roadRows r) (row (badCells (length cells)) 5 0 ∷ pairWordRows r cells up down word) (road-passing r (c .accepted)) (
         cells-pass (length cells) (c .cells-low) (c .cells-high),
-        (
-          none-above (r .jam) cells (c .cells-below),
-          (
-            le-ltb (r .jam) up (c .up-below),
-            (
-              le-ltb (r .jam) down (c .down-below),
-              (word-passes (length cells) word (c .word-long) (c .word-legal), tt),
-            ),
-          ),
-        ),
+        pair-word-passes r cells up down word (c .cells-below) (c .up-below) (c .down-below) (c .word-long) (c .word-legal),
       ))
+
+  -- demand 1 of the judgement
+  fit-judged : FitJudged r cells up down word (fitRefusal r cells up down word)
+  unfolding fitRefusal
+  fit-judged =
+      judged-rows (fitRows r cells up down word) tt (PairWordPlaced r cells up down word)
+      (pair-word-placed r cells up down word (fitShapeRows r (length cells)) tt)
+      checked-of
+      checked-passes
 
   -- a refusal of the shape is the fit test's, and otherwise the cells are few
   pub shape-stands : (f : Refusal) → f ≡ fitShapeRefusal r (length cells) → (f .number ≡ 0 → ⊥) → f ≡ fitRefusal r cells up down word
   unfolding fitShapeRefusal fitRefusal
-  shape-stands = part-stands (fitShapeRows r (length cells)) (valueRows r cells up down word)
+  shape-stands = part-stands (fitShapeRows r (length cells)) (pairWordRows r cells up down word)
 
   pub shape-short : fitShapeRefusal r (length cells) .number ≡ 0 → length cells ≤ cellsCeiling
   unfolding fitShapeRefusal
@@ -81,16 +73,17 @@ module _ (r : Road) (cells : List ℕ) (up down : ℕ) (word : List ℕ) where
 
   -- the first misfit as it is reported: every face holds, or one does not
   module _ (k : ℕ) (found : k ≡ firstMisfit (wordOf r up down cells) word) where
-    pub all-fit : k ≡ length cells + 1 → Compared r cells up down word (record { holds = true; face = 0 })
+    pub all-fit : length word ≡ length cells + 1 → k ≡ length cells + 1 → Compared r cells up down word (record { holds = true; face = 0 })
     unfolding allHold misfitFace
-    all-fit e =
-        let holds : allHold r cells up down word ≡ true = eq-eqb _ _ (sym found ∙ e) in
+    all-fit long e =
+        let own = own-long r cells up down in
+        let holds : allHold r cells up down word ≡ true = same-word (wordOf r up down cells) word (own ∙ sym long) (sym found ∙ e ∙ sym own) in
         record { holds = sym holds; face = rw holds refl }
 
     pub one-misfit : (k ≡ length cells + 1 → ⊥) → Compared r cells up down word (record { holds = false; face = k })
     unfolding allHold misfitFace
     one-misfit n =
-        let holds : allHold r cells up down word ≡ false = ne-eqb _ _ (λ e. n (found ∙ e)) in
+        let holds : allHold r cells up down word ≡ false = other-word (wordOf r up down cells) word (λ e. n (found ∙ e ∙ own-long r cells up down)) in
         record { holds = sym holds; face = rw holds found }
 
   -- refused: the number and place of the table
@@ -101,6 +94,7 @@ module _ (r : Road) (cells : List ℕ) (up down : ℕ) (word : List ℕ) where
       record {
         answer = rw no (ap Refused e);
         means = rw no (ap (λ (g : Refusal). meaning (Refused g)) e);
+        judged = rw (← e) at fit-judged;
       }
 
   -- accepted: the comparison
@@ -112,4 +106,5 @@ module _ (r : Road) (cells : List ℕ) (up down : ℕ) (word : List ℕ) where
       record {
         answer = rw yes-it-is (λ i. Done (record { holds = c .holds i; face = c .face i }));
         means = rw yes-it-is (λ i. record { number = sym nothing i .number; place = sym nothing i .place; holds = c .holds i; face = c .face i });
+        judged = rw nothing at fit-judged;
       }

@@ -12,20 +12,18 @@ use borrow.Author.Tests.{ltb-false, le-ltb, eqb-true, eq-eqb}
 use Rattle.road.specs.Choice.{pick, or, both}
 use Rattle.road.specs.Judgement.{Accepted}
 use Rattle.road.specs.declared.Road.{Road}
+use Rattle.road.proofs.Choice.{or-left}
 use Rattle.flux.specs.Face.{letterW, letterL, letterD, letter}
 use Rattle.flux.proofs.Letters.{one-letter, no-W-D, no-L-L}
 use Rattle.scheme.specs.Word.{wordOf}
 use Rattle.modes.specs.Words.{illegalPair, offends, firstOffence, legal}
+use Rattle.modes.specs.Places.{offendsAt}
 
 -- a letter that may stand after another: it is known, and is no D after W and no L after L
 pub record Follows (before s : ℕ) : Type 0 where
   pub known : s ≤ letterD
   pub W-D : before ≡ letterW → s ≡ letterD → ⊥
   pub L-L : before ≡ letterL → s ≡ letterL → ⊥
-
-or-left : (a b : Bool) → or a b ≡ false → a ≡ false
-or-left true b e = e
-or-left false b e = refl
 
 not-both : (a b : Bool) → (a ≡ true → b ≡ true → ⊥) → both a b ≡ false
 not-both true true h = absurd (h refl refl)
@@ -57,10 +55,6 @@ may-follow before s = (to, from)
 pub data Legal : ℕ → List ℕ → Type 0 where
   none : {before : ℕ} → Legal before []
   one : {before s : ℕ} {ss : List ℕ} → offends before s ≡ false → Legal s ss → Legal before (s ∷ ss)
-
--- face i of a word offends, its first face standing after a given letter
-abbrev pub offendsAt : ℕ → List ℕ → ℕ → Bool
-offendsAt before word i = offends (getD (before ∷ word) i 0) (getD word i 0)
 
 pick-bound : (b : Bool) (m n : ℕ) → m ≤ n → pick b 0 (suc m) ≤ suc n
 pick-bound true m n h = zero-le

@@ -1,5 +1,6 @@
+-- The theorems of Level 2: legal words and their count, modes and rows, the loops of the code, and the calls' answers.
 pub mod Legal
-pub mod Tally
+pub mod LegalCount
 pub mod Occurs
 pub mod Integers
 pub mod Dot
@@ -9,21 +10,23 @@ pub mod Sizes
 pub mod Seven
 pub mod LetterLoop
 pub mod ModeLoop
-pub mod CountLoop
+pub mod TallyLoop
 pub mod ReadJudging
-pub mod Counted
+pub mod TalliedModes
 pub mod ReadAnswers
-pub mod ReadState
 pub mod Turning
 pub mod CountAnswers
 pub mod Offences
 pub mod Misfits
 pub mod WordRow
-pub mod Parts
 pub mod FitAnswers
 pub mod Fitness
+pub mod FitState
+pub mod ReadState
 pub mod Coefficients
 pub mod CandidateAnswers
 pub mod RowLoop
 pub mod PredictAnswers
+pub mod PredictState
 pub mod Promised
+pub mod WordList

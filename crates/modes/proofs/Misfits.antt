@@ -15,7 +15,13 @@ use Rattle.road.specs.declared.Road.{Road}
 use Rattle.flux.specs.Face.{letter}
 use Rattle.scheme.specs.Sums.{Below}
 use Rattle.scheme.specs.Word.{wordOf}
+use Rattle.scheme.specs.Settling.{sameWord}
+use Rattle.scheme.proofs.Faces.{word-length, same-words, words-same}
 use Rattle.modes.specs.Fit.{firstMisfit}
+
+-- a state's word has a letter a face
+pub own-long : (r : Road) (cells : List ℕ) (up down : ℕ) → length (wordOf r up down cells) ≡ length cells + 1
+own-long r cells up down = word-length r up down cells ∙ sym (add-one (length cells))
 
 -- one face of the comparison, by its test
 misfit-here : (s t : ℕ) (ss ts : List ℕ) → (s ≡ t → ⊥) → firstMisfit (s ∷ ss) (t ∷ ts) ≡ 0
@@ -66,6 +72,17 @@ pub fits-itself : (ss : List ℕ) → firstMisfit ss ss ≡ length ss
 unfolding firstMisfit
 fits-itself [] = refl
 fits-itself (s ∷ ss) = misfit-on s s ss ss refl ∙ ap suc (fits-itself ss)
+
+-- so there is none exactly where the words are the same letter by letter
+pub same-word : (ss ts : List ℕ) → length ss ≡ length ts → firstMisfit ss ts ≡ length ss → sameWord ss ts ≡ true
+same-word ss ts long e = rw (no-misfit ss ts long e) (words-same ts)
+
+pub other-word : (ss ts : List ℕ) → (firstMisfit ss ts ≡ length ss → ⊥) → sameWord ss ts ≡ false
+other-word ss ts n = by-test (sameWord ss ts) refl
+  where
+    by-test : (b : Bool) → sameWord ss ts ≡ b → b ≡ false
+    by-test true e = absurd (n (ap (firstMisfit ss) (sym (same-words ss ts e)) ∙ fits-itself ss))
+    by-test false e = refl
 
 -- face i of a word, where s, its own letter, is compared with what stands there
 module _ (word : List ℕ) (i : ℕ) (h : i < length word) (s : ℕ) (ss : List ℕ) where

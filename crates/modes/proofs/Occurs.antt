@@ -2,7 +2,7 @@
 use mathlib.Core.Path.{_≡_, refl, ap, ap₂}
 use mathlib.Core.Bool.{Bool, true, false}
 use mathlib.Core.List.{List, [], _∷_}
-use Prim.Native.Nat.{ℕ, zero, suc, _+_, _≤_, _<_, zero-le}
+use Prim.Native.Nat.{ℕ, zero, suc, _≤_, _<_, zero-le}
 use native.Mathlib.Nat.{le-refl, le-of-lt, lt-of-not-le, not-suc-le-zero, mul-zero, sub-self, mul-pos}
 use native.Mathlib.Decide.{decLe}
 use native.Mathlib.Omega.{arith}
@@ -16,15 +16,8 @@ use Rattle.flux.specs.Face.{letterW, letterL, letterD, letter}
 use Rattle.flux.proofs.Letters.{full-W, full-D, free-L, free-D}
 use Rattle.scheme.specs.Word.{wordOf}
 use Rattle.modes.specs.Words.{legal, between, upstreamOf, downstreamOf, cellsOf}
+use Rattle.modes.specs.LegalWordsCounted.{Occurs}
 use Rattle.modes.proofs.Legal.{Legal, one, may-follow, legal-word}
-
--- a word and the state that is given for it: it is the state's word, there is a cell for each two neighbouring letters, and no density is above jam
-pub record Occurs (r : Road) (word : List ℕ) : Type 0 where
-  pub same : wordOf r (upstreamOf r word) (downstreamOf r word) (cellsOf r word) ≡ word
-  pub cells : length (cellsOf r word) + 1 ≡ length word
-  pub upstream : upstreamOf r word ≤ r .jam
-  pub downstream : downstreamOf r word ≤ r .jam
-  pub below : (i : ℕ) → getD (cellsOf r word) i 0 ≤ r .jam
 
 module _ (r : Road) (ok : Accepted r) where
   -- no density of the state is above jam

@@ -1,35 +1,14 @@
 -- The search of a word for its first offence, midway: no face before i offends.
-use mathlib.Core.Path.{_≡_, _∙_, refl, sym, ap}
-use mathlib.Core.Bool.{Bool, true, false}
+use mathlib.Core.Path.{_≡_, _∙_, ap}
+use mathlib.Core.Bool.{true, false}
 use mathlib.Core.List.{List, _∷_}
 use Prim.Native.Nat.{ℕ, suc, _+_, _≤_, _<_, zero-le}
 use native.Mathlib.Numerals.{add-one}
 use native.Mathlib.Omega.{arith}
-use lib.Dec.{eqb}
 use lib.ListN.{length, getD, drop, drop-of-length-le}
 use lib.Seq.{drop-cons}
-use borrow.Author.Tests.{ne-eqb}
-use Rattle.road.specs.Choice.{or}
-use Rattle.flux.specs.Face.{letterW, letterL, letterD}
-use Rattle.modes.specs.Words.{illegalPair, offends, firstOffence}
-
-or-false : (a : Bool) → or a false ≡ a
-or-false true = refl
-or-false false = refl
-
--- the illegal pairs, by the first letter
-module _ (s t : ℕ) where
-  pub after-W : s ≡ letterW → eqb t letterD ≡ illegalPair s t
-  unfolding illegalPair
-  after-W e = rw e (sym (or-false (eqb t letterD)))
-
-  pub after-L : s ≡ letterL → eqb t letterL ≡ illegalPair s t
-  unfolding illegalPair
-  after-L e = rw e refl
-
-  pub after-other : (s ≡ letterW → ⊥) → (s ≡ letterL → ⊥) → false ≡ illegalPair s t
-  unfolding illegalPair
-  after-other w l = simp (ne-eqb s letterW w, ne-eqb s letterL l)
+use Rattle.flux.specs.Face.{letterD}
+use Rattle.modes.specs.Words.{offends, firstOffence}
 
 -- one face of the search, by its test
 offence-here : (before s : ℕ) (ss : List ℕ) → offends before s ≡ true → firstOffence before (s ∷ ss) ≡ 0

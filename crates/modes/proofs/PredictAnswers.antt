@@ -1,55 +1,38 @@
 -- The row prediction's judgement and its answers: which inputs no row refuses, what is written of them, and what is answered of the others.
 use mathlib.Core.Path.{_≡_, refl, ap}
 use mathlib.Core.Bool.{true, false}
-use mathlib.Core.List.{List, [], _∷_, _++_, map}
+use mathlib.Core.List.{List, _++_}
 use Prim.Native.Nat.{ℕ, _≤_}
 use lib.Dec.{eqb, lit<}
-use lib.IntN.{ℤ, pos}
+use lib.IntN.{ℤ}
 use lib.ListN.{length}
-use borrow.Author.Tests.{eq-eqb, ne-eqb, ltb-false, le-ltb}
+use borrow.Author.Tests.{eq-eqb, ne-eqb, ltb-false}
 use Rattle.road.specs.Ceilings.{cellsCeiling}
-use Rattle.road.specs.Table.{Row, row, passed, Lowest}
+use Rattle.road.specs.Table.{row, passed}
 use Rattle.road.specs.Judgement.{roadRows}
 use Rattle.road.specs.declared.Road.{Road}
 use Rattle.road.specs.declared.refusal.Refusal.{Refusal}
-use Rattle.road.proofs.Table.{the-rule, none-holds, passing-append, all-pass, nothing-refused, row-returned}
+use Rattle.road.proofs.Table.{none-holds, passing-append, all-pass, nothing-refused, judged-rows}
 use Rattle.road.proofs.Acceptance.{road-passing}
-use Rattle.checks.specs.Lists.{badCells, badOutput}
-use Rattle.checks.specs.Values.{pairRows}
-use Rattle.checks.proofs.First.{all-below, none-above}
+use Rattle.road.proofs.Parts.{road-first, part-stands}
+use Rattle.checks.proofs.First.{all-below}
 use Rattle.checks.proofs.Rows.{cells-low, cells-high, cells-pass, output-long, output-passes}
-use Rattle.scheme.specs.Exact.{exactStep}
-use Rattle.scheme.specs.Word.{wordOf}
 use Rattle.modes.specs.Modes.{rowNumerators}
-use Rattle.modes.specs.Judging.{badWord, wordPlace, predictShapeRows, predictRows, predictRefusal}
-use Rattle.modes.specs.Prediction.{predictAnswer, predicted, predictShapeRefusal, PredictChecked, Predicts}
+use Rattle.modes.specs.Judging.{pairWordRows, predictListRows, predictShapeRows, predictRows, predictRefusal}
+use Rattle.modes.specs.Places.{PairWordPlaced}
+use Rattle.modes.specs.Prediction.{predictAnswer, predicted, predictShapeRefusal, PredictChecked, PredictJudged, Predicts}
 use Rattle.modes.specs.declared.prediction.PredictAnswer.the-variants.{Done, Refused}
-use Rattle.modes.proofs.Parts.{road-first, part-stands}
-use Rattle.modes.proofs.Rows.{rows-exact}
-use Rattle.modes.proofs.WordRow.{word-long, word-legal, word-passes, WordPlaced, word-returned}
-
--- the rows below the shape's
-abbrev valueRows : Road → List ℕ → ℕ → ℕ → List ℕ → List Row
-valueRows r cells up down word = pairRows r cells up down ++ (row (badWord (length cells) word) 12 (wordPlace (length cells) word) ∷ [])
-
--- the rows of the lists
-abbrev listRows : ℕ → ℕ → List Row
-listRows n out = row (badCells n) 5 0 ∷ row (badOutput n out) 8 0 ∷ []
+use Rattle.modes.proofs.WordRow.{word-long, word-legal, pair-word-passes, pair-word-placed}
 
 module _ (r : Road) (cells : List ℕ) (up down : ℕ) (word : List ℕ) where
   module _ (out : ℕ) where
-    -- the number returned is the lowest that applies
-    pub predict-lowest : Lowest (predictRows r cells up down word out) (predictRefusal r cells up down word out)
-    unfolding predictRefusal
-    predict-lowest = the-rule (predictRows r cells up down word out) tt
-
     -- an input that nothing is refused of
     pub checked-of : predictRefusal r cells up down word out .number ≡ 0 → PredictChecked r cells up down word out
     unfolding predictRefusal
     checked-of e =
         let no = none-holds (predictRows r cells up down word out) tt e in
         record {
-          accepted = road-first r (listRows (length cells) out ++ valueRows r cells up down word) e;
+          accepted = road-first r (predictListRows (length cells) out ++ pairWordRows r cells up down word) e;
           cells-low = cells-low (length cells) (no 4 (lit< tt));
           cells-high = cells-high (length cells) (no 4 (lit< tt));
           output-long = output-long (length cells) out (no 5 (lit< tt));
@@ -65,37 +48,31 @@ module _ (r : Road) (cells : List ℕ) (up down : ℕ) (word : List ℕ) where
     unfolding predictRefusal
     checked-passes c =
         all-pass (predictRows r cells up down word out)
-        (passing-append (roadRows r) (listRows (length cells) out ++ valueRows r cells up down word) (road-passing r (c .accepted)) (
+        (passing-append (roadRows r) (predictListRows (length cells) out ++ pairWordRows r cells up down word) (road-passing r (c .accepted)) (
           cells-pass (length cells) (c .cells-low) (c .cells-high),
           (
             output-passes (length cells) out (c .output-long),
-            (
-              none-above (r .jam) cells (c .cells-below),
-              (
-                le-ltb (r .jam) up (c .up-below),
-                (
-                  le-ltb (r .jam) down (c .down-below),
-                  (word-passes (length cells) word (c .word-long) (c .word-legal), tt),
-                ),
-              ),
-            ),
+            pair-word-passes r cells up down word (c .cells-below) (c .up-below) (c .down-below) (c .word-long) (c .word-legal),
           ),
         ))
 
     -- a refusal of the shape is the row prediction's, and otherwise the cells are few
     pub shape-stands : (f : Refusal) → f ≡ predictShapeRefusal r (length cells) out → (f .number ≡ 0 → ⊥) → f ≡ predictRefusal r cells up down word out
     unfolding predictShapeRefusal predictRefusal
-    shape-stands = part-stands (predictShapeRows r (length cells) out) (valueRows r cells up down word)
+    shape-stands = part-stands (predictShapeRows r (length cells) out) (pairWordRows r cells up down word)
 
     pub shape-short : predictShapeRefusal r (length cells) out .number ≡ 0 → length cells ≤ cellsCeiling
     unfolding predictShapeRefusal
     shape-short e = cells-high (length cells) (none-holds (predictShapeRows r (length cells) out) tt e 4 (lit< tt))
 
-    -- the place of 12 offends, and no lower one does
-    pub predict-placed : predictRefusal r cells up down word out .number ≡ 12
-        → WordPlaced (length cells) word (predictRefusal r cells up down word out .place)
+    -- demand 1 of the judgement
+    predict-judged : PredictJudged r cells up down word out (predictRefusal r cells up down word out)
     unfolding predictRefusal
-    predict-placed e = word-returned (length cells) word 12 _ _ (row-returned (predictRows r cells up down word out) tt 9 (lit< tt) e)
+    predict-judged =
+        judged-rows (predictRows r cells up down word out) tt (PairWordPlaced r cells up down word)
+        (pair-word-placed r cells up down word (predictShapeRows r (length cells) out) tt)
+        checked-of
+        checked-passes
 
   module _ (out : List ℤ) where
     -- refused: the number and place of the table, and the former contents
@@ -109,6 +86,7 @@ module _ (r : Road) (cells : List ℕ) (up down : ℕ) (word : List ℕ) where
           number = ap (λ (g : Refusal). g .number) e;
           place = ap (λ (g : Refusal). g .place) e;
           output = rw no refl;
+          judged = rw (← e) at (predict-judged (length out));
         }
 
     -- accepted: the rows
@@ -123,12 +101,5 @@ module _ (r : Road) (cells : List ℕ) (up down : ℕ) (word : List ℕ) where
           number = rw nothing refl;
           place = rw nothing refl;
           output = rw yes-it-is is;
+          judged = rw nothing at (predict-judged (length out));
         }
-
--- an accepted call with the state's own word writes the exact step
-pub own-word-exact : (r : Road) (cells : List ℕ) (up down : ℕ) (out : List ℤ) → predictRefusal r cells up down (wordOf r up down cells) (length out) .number ≡ 0
-    → predicted r cells up down (wordOf r up down cells) out ≡ map pos (exactStep r 1 up down cells)
-unfolding predicted
-own-word-exact r cells up down out e =
-    let c = checked-of r cells up down (wordOf r up down cells) (length out) e in
-    rw (eq-eqb _ 0 e) (rows-exact r (c .accepted) up down cells (c .down-below) (c .cells-below))

@@ -1,5 +1,5 @@
 -- What is promised beside the contracts: every legal word is read off an accepted state, and a candidate row's numbers are exactly the whole ones.
-use mathlib.Core.Path.{_≡_, sym, ap}
+use mathlib.Core.Path.{_≡_, _∙_, sym, ap}
 use mathlib.Core.Bool.{true}
 use mathlib.Core.List.{List}
 use Prim.Native.Nat.{ℕ, _+_, _≤_}
@@ -16,10 +16,15 @@ use Rattle.road.specs.declared.refusal.Refusal.{Refusal}
 use Rattle.floats.specs.Worth.{Worth}
 use Rattle.floats.proofs.Round.{ofInt-worth}
 use Rattle.modes.specs.Words.{legal, upstreamOf, downstreamOf, cellsOf}
-use Rattle.modes.specs.Reading.{readLetters, ReadChecked}
-use Rattle.modes.specs.Candidate.{leftCoefficient, ownCoefficient, rightCoefficient, constantOf, rowFor}
+use Rattle.modes.specs.Reading.{readAnswer, ReadChecked}
+use Rattle.modes.specs.LegalWordsCounted.{ReadOff}
+use Rattle.modes.specs.declared.reading.ReadAnswer.the-variants.{Done}
+use Rattle.modes.specs.declared.reading.StateReading.{StateReading}
+use Rattle.modes.specs.Coefficients.{leftCoefficient, ownCoefficient, rightCoefficient, constantOf}
+use Rattle.modes.specs.Candidate.{rowFor}
 use Rattle.modes.proofs.Occurs.{occurs}
 use Rattle.modes.proofs.ReadJudging.{read-checked-passes}
+use Rattle.modes.proofs.ReadState.{accepted-reading}
 use Rattle.modes.proofs.Coefficients.{left-small, own-small, right-small, constant-small}
 
 -- from 1 cell on, up to the ceiling, every legal word is what the reading writes of a state that it accepts, on every accepted road
@@ -39,13 +44,18 @@ module _ (r : Road) (ok : Accepted r) (word : List ℕ) (allowed : legal word �
         down-below = o .downstream;
       }
 
-  pub word-read : (letters modes : List ℕ) → length letters ≡ length word → length modes ≡ length (cellsOf r word)
-      → readLetters r (cellsOf r word) (upstreamOf r word) (downstreamOf r word) letters modes ≡ word
-  unfolding readLetters
-  word-read letters modes l m =
-      let o = occurs r ok word allowed (omega arith) in
-      let passes = read-checked-passes r (cellsOf r word) (upstreamOf r word) (downstreamOf r word) (length word) (length (cellsOf r word)) state-accepted in
-      rw (l, m, eq-eqb _ 0 (ap (λ (f : Refusal). f .number) passes)) (o .same)
+  -- nothing of it is refused, so the reading is made and its letters are the state's word
+  pub read-off : ReadOff r word
+  unfolding readAnswer
+  read-off = record {
+    checked = state-accepted;
+    written = λ letters next-letters modes next-modes a reads l m.
+        let passes = read-checked-passes r (cellsOf r word) (upstreamOf r word) (downstreamOf r word) (length word) (length (cellsOf r word)) state-accepted in
+        let none = eq-eqb _ 0 (ap (λ (f : Refusal). f .number) passes) in
+        let made : a .answer ≡ Done = ap (λ (s : StateReading). s .answer) (rw (l, m, none) at (reads .answer)) in
+        let read = accepted-reading r (cellsOf r word) (upstreamOf r word) (downstreamOf r word) letters next-letters modes next-modes a reads made in
+        (made, read .word ∙ occurs r ok word allowed (omega arith) .same);
+  }
 
 -- "each exactly the whole number"
 module _ (r : Road) (ok : Accepted r) (mode : ℕ) (low : 1 ≤ mode) (high : mode ≤ 7) where

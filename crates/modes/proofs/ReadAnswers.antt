@@ -21,8 +21,8 @@ use Rattle.modes.specs.declared.reading.ReadAnswer.{ReadAnswer}
 use Rattle.modes.specs.declared.reading.ReadAnswer.the-variants.{Done, Refused}
 use Rattle.modes.specs.declared.reading.Counts.{Counts}
 use Rattle.modes.specs.declared.reading.StateReading.{StateReading}
-use Rattle.modes.proofs.Counted.{state-modes-length, state-numbered, state-counts-sum}
-use Rattle.modes.proofs.ReadJudging.{read-checked-of}
+use Rattle.modes.proofs.TalliedModes.{state-modes-length, state-numbered, state-counts-sum}
+use Rattle.modes.proofs.ReadJudging.{read-checked-of, read-judged}
 
 -- an answer beside its counts
 abbrev reading : ReadAnswer → Counts → StateReading
@@ -41,6 +41,7 @@ module _ (r : Road) (cells : List ℕ) (up down : ℕ) (letters modes : List ℕ
         place = ap (λ (g : Refusal). g .place) e;
         letters-written = rw no refl;
         modes-written = rw no refl;
+        judged = rw (← e) at (read-judged r cells up down (length letters) (length modes));
         counts-sum = λ q. let z : _≡_ {A = ℕ} 0 1 = cc q in absurd (omega arith);
       }
 
@@ -58,7 +59,7 @@ module _ (r : Road) (cells : List ℕ) (up down : ℕ) (letters modes : List ℕ
         modes-are : ms ≡ modesOf (wordOf r up down cells)
         modes-are = moded ∙ ap modesOf lettered
 
-        -- what the counting asks
+        -- what the tally asks
         pub tally-asks : (length ms ≤ cellsCeiling) × Numbered ms
         tally-asks = (
           let n = ap length modes-are ∙ state-modes-length r up down cells in let h = checked .cells-high in omega arith,
@@ -78,5 +79,6 @@ module _ (r : Road) (cells : List ℕ) (up down : ℕ) (letters modes : List ℕ
               place = sym (ap (λ (g : Refusal). g .place) nothing);
               letters-written = rw yes-it-is lettered;
               modes-written = rw yes-it-is modes-are;
+              judged = rw nothing at (read-judged r cells up down (length letters) (length modes));
               counts-sum = λ q. rw counts (state-counts-sum r up down cells (checked .accepted));
             }

@@ -1,8 +1,8 @@
 -- Sizes: on an accepted road every product and every partial sum of a row fits a signed 64-bit number.
-use mathlib.Core.Path.{_≡_, refl, ap, ap₂, sym, _∙_}
+use mathlib.Core.Path.{_≡_, refl, ap, sym, _∙_}
 use mathlib.Core.List.{List, [], _∷_}
-use Prim.Native.Nat.{ℕ, zero, suc, _*_, _≤_, _<_, zero-le, suc-le-suc}
-use native.Mathlib.Nat.{le-refl, le-of-lt, le-trans, lt-of-le-of-lt, mul-le-mul, mul-le-mul-right, one-mul, suc-mul, suc-inj}
+use Prim.Native.Nat.{ℕ, zero, suc, _*_, _≤_, _<_, zero-le}
+use native.Mathlib.Nat.{le-refl, le-of-lt, le-trans, lt-of-le-of-lt, mul-le-mul, one-mul, suc-mul, suc-inj}
 use native.Mathlib.Omega.{arith}
 use lib.Dec.{lit<, lit≤}
 use lib.IntN.{ℤ, pos, negsuc, _+ℤ_, _*ℤ_, natAbs, +ℤ-idr, +ℤ-assoc}
@@ -23,18 +23,13 @@ unfoldable pub sumTo : ℤ → List ℤ → List ℤ → ℕ → ℤ
 sumTo start ks ts zero = start
 sumTo start ks ts (suc k) = sumTo start ks ts k +ℤ getD ks k (pos 0) *ℤ getD ts k (pos 0)
 
-pub sumTo-next : {x y : ℤ} (start : ℤ) (ks ts : List ℤ) (k : ℕ) → x ≡ sumTo start ks ts k → y ≡ getD ks k (pos 0) *ℤ getD ts k (pos 0)
-    → x +ℤ y ≡ sumTo start ks ts (suc k)
-unfolding sumTo
-sumTo-next start ks ts k e q = ap₂ _+ℤ_ e q
-
 -- over all columns it is the start plus the whole sum
 sumTo-cons : (start k t : ℤ) (ks ts : List ℤ) (n : ℕ) → sumTo start (k ∷ ks) (t ∷ ts) (suc n) ≡ sumTo (start +ℤ k *ℤ t) ks ts n
 unfolding sumTo
 sumTo-cons start k t ks ts zero = refl
 sumTo-cons start k t ks ts (suc n) = ap (λ x. x +ℤ getD ks n (pos 0) *ℤ getD ts n (pos 0)) (sumTo-cons start k t ks ts n)
 
-pub sumTo-all : (start : ℤ) (ks ts : List ℤ) → length ks ≡ length ts → sumTo start ks ts (length ks) ≡ start +ℤ dot ks ts
+sumTo-all : (start : ℤ) (ks ts : List ℤ) → length ks ≡ length ts → sumTo start ks ts (length ks) ≡ start +ℤ dot ks ts
 unfolding sumTo dot
 sumTo-all start [] ts e = sym (+ℤ-idr start)
 sumTo-all start (k ∷ ks) [] e = absurd (omega arith)
@@ -99,7 +94,7 @@ module _ (r : Road) (ok : Accepted r) where
 
   -- a cell with its neighbours
   module _ (left own right : ℕ) (left-high : left ≤ r .jam) (own-high : own ≤ r .jam) (right-high : right ≤ r .jam) where
-    pub term-small : (k : ℕ) → natAbs (getD (terms r left own right) k (pos 0)) ≤ largest
+    term-small : (k : ℕ) → natAbs (getD (terms r left own right) k (pos 0)) ≤ largest
     unfolding terms
     term-small zero = free-small left left-high
     term-small (suc zero) = free-small own own-high
@@ -110,15 +105,15 @@ module _ (r : Road) (ok : Accepted r) where
     term-small (suc (suc (suc (suc (suc (suc zero)))))) = wave-small (r .jam) (le-refl (r .jam))
     term-small (suc (suc (suc (suc (suc (suc (suc k))))))) = zero-le
 
-    pub start-small : r .divisor * own ≤ largest
+    start-small : r .divisor * own ≤ largest
     start-small = product-small (r .divisor) own (le-refl (r .divisor)) own-high
 
     -- in every mode: each product, the start with the first k of them, and the whole row
     module _ (mode : ℕ) (mode-low : 1 ≤ mode) (mode-high : mode ≤ 7) where
-      pub part-small : (k : ℕ) → k < 7 → natAbs (getD (rowOf mode) k (pos 0) *ℤ getD (terms r left own right) k (pos 0)) ≤ largest
+      part-small : (k : ℕ) → k < 7 → natAbs (getD (rowOf mode) k (pos 0) *ℤ getD (terms r left own right) k (pos 0)) ≤ largest
       part-small k h = le-trans (entry-times mode k mode-low mode-high h (getD (terms r left own right) k (pos 0))) (term-small k)
 
-      pub sum-small : (k : ℕ) → k ≤ 7
+      sum-small : (k : ℕ) → k ≤ 7
           → natAbs (sumTo (pos (r .divisor * own)) (rowOf mode) (terms r left own right) k) ≤ suc k * largest
       sum-small = sumTo-small largest (pos (r .divisor * own)) (rowOf mode) (terms r left own right) 7 start-small part-small
 
@@ -130,34 +125,3 @@ module _ (r : Road) (ok : Accepted r) where
 
       pub row-small : natAbs (rowValue r mode left own right) ≤ 8 * largest
       row-small = rw sum-row at (sum-small 7 (le-refl 7))
-
-      -- so the signed 64-bit numbers hold them
-      pub part-fits : (k : ℕ) → k < 7 → SFits w64 (getD (rowOf mode) k (pos 0) *ℤ getD (terms r left own right) k (pos 0))
-      part-fits k h = eight-fit _ (le-trans (part-small k h) (lit≤ tt))
-
-      pub sum-bound : (k : ℕ) → k ≤ 7 → natAbs (sumTo (pos (r .divisor * own)) (rowOf mode) (terms r left own right) k) ≤ 8 * largest
-      sum-bound k h = le-trans (sum-small k h) (mul-le-mul-right largest (suc-le-suc h))
-
-      pub sum-fits : (k : ℕ) → k ≤ 7 → SFits w64 (sumTo (pos (r .divisor * own)) (rowOf mode) (terms r left own right) k)
-      sum-fits k h = eight-fit _ (sum-bound k h)
-
-      -- the loop over the columns: from a start and terms that the code worked out, one part more
-      module _ {start : ℤ} {ts : List ℤ} (begun : start ≡ pos (r .divisor * own)) (given : ts ≡ terms r left own right) where
-        pub term-known : (k : ℕ) → natAbs (getD ts k (pos 0)) ≤ largest
-        term-known k = rw given (term-small k)
-
-        pub summed-small : (k : ℕ) → k ≤ 7 → natAbs (sumTo start (rowOf mode) ts k) ≤ 8 * largest
-        summed-small k h = rw (begun, given) (sum-bound k h)
-
-        pub summed-row : (k : ℕ) → k ≡ 7 → sumTo start (rowOf mode) ts k ≡ rowValue r mode left own right
-        summed-row k e = rw (begun, given, e) sum-row
-
-        -- a term as the code reads it, and the part that it made of it
-        pub term-back : (k : ℕ) → toZ w64 (ofZ w64 (getD ts k (pos 0))) ≡ getD ts k (pos 0)
-        term-back k = kept refl (le-trans (term-known k) (lit≤ tt))
-
-        pub part-known : {z : ℤ} (k : ℕ) → k < 7 → z ≡ getD (rowOf mode) k (pos 0) *ℤ toZ w64 (ofZ w64 (getD ts k (pos 0)))
-            → toZ w64 (ofZ w64 z) ≡ getD (rowOf mode) k (pos 0) *ℤ getD ts k (pos 0)
-        part-known k h e =
-            let small : natAbs (getD (rowOf mode) k (pos 0) *ℤ getD ts k (pos 0)) ≤ largest = rw given (part-small k h) in
-            kept (e ∙ ap (λ x. getD (rowOf mode) k (pos 0) *ℤ x) (term-back k)) (le-trans small (lit≤ tt))

@@ -2,40 +2,23 @@
 use mathlib.Core.Path.{_≡_}
 use mathlib.Core.Bool.{Bool, true}
 use mathlib.Core.List.{List, [], _∷_, _++_}
-use Prim.Native.Nat.{ℕ, _*_, _≤_}
+use Prim.Native.Nat.{ℕ, _≤_}
 use lib.Dec.{eqb}
-use lib.IntN.{ℤ, pos, _+ℤ_, _*ℤ_}
-use lib.ListN.{getD}
+use lib.IntN.{ℤ, pos}
 use lib.Ieee.{Float, fin, binary64, add, mul, lt, ne, ofInt, ofBits}
 use Rattle.road.specs.Choice.{pick, or}
-use Rattle.road.specs.Table.{Row, row, judge}
+use Rattle.road.specs.Table.{Row, row, judge, refused, Judged}
 use Rattle.road.specs.Judgement.{roadRows, outside, Accepted}
 use Rattle.road.specs.declared.Road.{Road}
 use Rattle.road.specs.declared.refusal.Refusal.{Refusal}
 use Rattle.floats.specs.Worth.{Worth, Passes}
-use Rattle.modes.specs.Modes.{rowOf, rowValue}
+use Rattle.modes.specs.Modes.{rowValue}
+use Rattle.modes.specs.Coefficients.{leftCoefficient, ownCoefficient, rightCoefficient, constantOf}
+use Rattle.modes.specs.Places.{EstimatePlaced}
 use Rattle.modes.specs.declared.candidates.CandidateRow.{CandidateRow}
-use Rattle.modes.specs.declared.candidates.Prediction.{Prediction}
+use Rattle.modes.specs.declared.candidates.CandidateResult.{CandidateResult}
 use Rattle.modes.specs.declared.candidates.CandidateAnswer.{CandidateAnswer}
 use Rattle.modes.specs.declared.candidates.CandidateAnswer.the-variants.{Done, Refused}
-
--- the table's multiplier of a mode in a column
-abbrev pub entry : ℕ → ℕ → ℤ
-entry mode column = getD (rowOf mode) column (pos 0)
-
--- what a row's value multiplies left, own and right by, and what it adds, in whole numbers. Each row also has D × own
-unfoldable pub leftCoefficient : Road → ℕ → ℤ
-leftCoefficient r mode = entry mode 0 *ℤ pos (r .free)
-
-unfoldable pub ownCoefficient : Road → ℕ → ℤ
-ownCoefficient r mode = pos (r .divisor) +ℤ entry mode 1 *ℤ pos (r .free) +ℤ entry mode 2 *ℤ pos (r .wave)
-
-unfoldable pub rightCoefficient : Road → ℕ → ℤ
-rightCoefficient r mode = entry mode 3 *ℤ pos (r .wave)
-
-unfoldable pub constantOf : Road → ℕ → ℤ
-constantOf r mode =
-    entry mode 4 *ℤ pos (r .wave * r .critical) +ℤ entry mode 5 *ℤ pos (r .free * r .critical) +ℤ entry mode 6 *ℤ pos (r .wave * r .jam)
 
 -- "three float coefficients and a float constant, each exactly the whole number"
 unfoldable pub rowFor : Road → ℕ → CandidateRow
@@ -75,13 +58,13 @@ unfoldable pub candidateRefusal : Road → ℕ → Float → Float → Float →
 candidateRefusal r mode left own right = judge (candidateRows r mode left own right)
 
 -- the numerator that the row predicts
-abbrev pub predicted : Road → ℕ → Float → Float → Float → Float
-predicted r mode left own right = applied (rowFor r mode) left own right
+abbrev pub candidateNumerator : Road → ℕ → Float → Float → Float → Float
+candidateNumerator r mode left own right = applied (rowFor r mode) left own right
 
 unfoldable pub candidateAnswer : Road → ℕ → Float → Float → Float → CandidateAnswer
 candidateAnswer r mode left own right =
     pick (eqb (candidateRefusal r mode left own right .number) 0)
-    (Done (record { numerator = predicted r mode left own right }))
+    (Done (record { numerator = candidateNumerator r mode left own right }))
     (Refused (candidateRefusal r mode left own right))
 
 -- the paper's numbers of an answer: number (0 when accepted), place, the numerator (0.0 when refused)
@@ -98,7 +81,7 @@ unfoldable pub candidateMeaning : Road → ℕ → Float → Float → Float →
 candidateMeaning r mode left own right = record {
   number = candidateRefusal r mode left own right .number;
   place = candidateRefusal r mode left own right .place;
-  value = pick (eqb (candidateRefusal r mode left own right .number) 0) (predicted r mode left own right) (ofBits binary64 0);
+  value = pick (eqb (candidateRefusal r mode left own right .number) 0) (candidateNumerator r mode left own right) (ofBits binary64 0);
 }
 
 -- what an input that no row refuses is
@@ -110,15 +93,27 @@ pub record CandidateChecked (r : Road) (mode : ℕ) (left own right : Float) : T
   pub own-passes : Passes binary64 (r .jam) own
   pub right-passes : Passes binary64 (r .jam) right
 
--- the float is exactly the whole numerator z, and never −0.0
+-- the place of 14 among the three estimates
+abbrev pub CandidatePlaced : Road → Float → Float → Float → Refusal → Type 0
+CandidatePlaced r left own right f =
+    f .number ≡ 14 → EstimatePlaced (badEstimate (r .jam) left) (badEstimate (r .jam) own) (badEstimate (r .jam) right) (f .place)
+
+-- demand 1 of a refusal, of the candidate's rows
+abbrev pub CandidateJudged : Road → ℕ → Float → Float → Float → Refusal → Type 0
+CandidateJudged r mode left own right f =
+    Judged (candidateRows r mode left own right) (CandidateChecked r mode left own right) (CandidatePlaced r left own right) f
+
+-- the float is exactly the whole numerator z
 pub record Whole (x : Float) (z : ℤ) : Type 0 where
   pub same : x ≡ ofInt binary64 z
   pub worth : Worth x z
-  pub plain : (e : ℤ) → x ≡ fin true 0 e → ⊥
 
 -- what the call promises; the estimates of an accepted call are whole only as naturals, as `whole-estimate` shows
 pub record Candidates (r : Road) (mode : ℕ) (left own right : Float) (a : CandidateAnswer) : Type 0 where
   pub answer : a ≡ candidateAnswer r mode left own right
   pub means : meaning a ≡ candidateMeaning r mode left own right
-  pub exact : (p : Prediction) → a ≡ Done p → (l o t : ℕ) → Worth left (pos l) → Worth own (pos o) → Worth right (pos t)
+  pub judged : CandidateJudged r mode left own right (refused (meaning a .number) (meaning a .place))
+  pub exact : (p : CandidateResult) → a ≡ Done p → (l o t : ℕ) → Worth left (pos l) → Worth own (pos o) → Worth right (pos t)
       → Whole (p .numerator) (rowValue r mode l o t)
+  -- never −0.0, whole estimates or not
+  pub plain : (p : CandidateResult) → a ≡ Done p → (e : ℤ) → p .numerator ≡ fin true 0 e → ⊥

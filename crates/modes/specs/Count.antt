@@ -1,11 +1,11 @@
 -- The word count call: the number of legal words for n cells, up to its ceiling (document 01, "Seven modes", row 15).
 use mathlib.Core.Path.{_≡_}
 use mathlib.Core.List.{List, [], _∷_}
-use Prim.Native.Nat.{ℕ}
+use Prim.Native.Nat.{ℕ, _≤_}
 use lib.Dec.{eqb, ltb}
 use Rattle.road.specs.Choice.{pick}
 use Rattle.road.specs.Ceilings.{countCeiling}
-use Rattle.road.specs.Table.{Row, row, judge}
+use Rattle.road.specs.Table.{Row, row, judge, refused, Judged}
 use Rattle.road.specs.declared.refusal.Refusal.{Refusal}
 use Rattle.modes.specs.Words.{wordCount}
 use Rattle.modes.specs.declared.counting.CountAnswer.{CountAnswer}
@@ -21,7 +21,7 @@ countRefusal n = judge (countRows n)
 unfoldable pub countAnswer : ℕ → CountAnswer
 countAnswer n = pick (eqb (countRefusal n .number) 0) (Done (record { words = wordCount n })) (Refused (countRefusal n))
 
--- the paper's numbers of an answer: number (0 when accepted), place, the count
+-- the paper's numbers of an answer: number (0 when accepted), place, the count (0 when refused)
 pub record Meaning : Type 0 where
   pub number : ℕ
   pub place : ℕ
@@ -38,7 +38,12 @@ countMeaning n = record {
   words = pick (eqb (countRefusal n .number) 0) (wordCount n) 0;
 }
 
+-- demand 1 of a refusal, of the one row: its place is 0, and none is refused exactly up to the ceiling
+abbrev pub CountJudged : ℕ → Refusal → Type 0
+CountJudged n f = Judged (countRows n) (n ≤ countCeiling) (λ g. g .place ≡ 0) f
+
 -- what the call promises
 pub record CountsWords (n : ℕ) (a : CountAnswer) : Type 0 where
   pub answer : a ≡ countAnswer n
   pub means : meaning a ≡ countMeaning n
+  pub judged : CountJudged n (refused (meaning a .number) (meaning a .place))

@@ -7,14 +7,16 @@ use lib.Dec.{eqb}
 use lib.ListN.{length}
 use Rattle.road.specs.Choice.{pick}
 use Rattle.road.specs.Ceilings.{cellsCeiling}
-use Rattle.road.specs.Table.{judge}
+use Rattle.road.specs.Table.{judge, refused, Judged}
 use Rattle.road.specs.Judgement.{Accepted}
 use Rattle.road.specs.declared.Road.{Road}
 use Rattle.road.specs.declared.refusal.Refusal.{Refusal}
 use Rattle.scheme.specs.Sums.{Below}
 use Rattle.scheme.specs.Word.{wordOf}
+use Rattle.scheme.specs.Settling.{sameWord}
 use Rattle.modes.specs.Words.{legal}
-use Rattle.modes.specs.Judging.{fitShapeRows, fitRefusal}
+use Rattle.modes.specs.Judging.{fitShapeRows, fitRows, fitRefusal}
+use Rattle.modes.specs.Places.{PairWordPlaced}
 use Rattle.modes.specs.declared.fitting.FitResult.{FitResult}
 use Rattle.modes.specs.declared.fitting.FitAnswer.{FitAnswer}
 use Rattle.modes.specs.declared.fitting.FitAnswer.the-variants.{Done, Refused}
@@ -25,10 +27,11 @@ firstMisfit [] ts = 0
 firstMisfit (s ∷ ss) [] = 0
 firstMisfit (s ∷ ss) (t ∷ ts) = pick (eqb s t) (suc (firstMisfit ss ts)) 0
 
--- whether all n+1 faces of the word hold, and the lowest face that does not (0 where all hold)
+-- whether all faces of the word hold: it is the state's word, letter by letter and of the same length
 unfoldable pub allHold : Road → List ℕ → ℕ → ℕ → List ℕ → Bool
-allHold r cells up down word = eqb (firstMisfit (wordOf r up down cells) word) (length cells + 1)
+allHold r cells up down word = sameWord (wordOf r up down cells) word
 
+-- the lowest face that does not (0 where all hold)
 unfoldable pub misfitFace : Road → List ℕ → ℕ → ℕ → List ℕ → ℕ
 misfitFace r cells up down word = pick (allHold r cells up down word) 0 (firstMisfit (wordOf r up down cells) word)
 
@@ -38,7 +41,7 @@ fitAnswer r cells up down word =
     (Done (record { holds = allHold r cells up down word; face = misfitFace r cells up down word }))
     (Refused (fitRefusal r cells up down word))
 
--- the paper's numbers of an answer: number (0 when accepted), place, whether all hold, the lowest face that does not
+-- the paper's numbers of an answer: number (0 when accepted), place, whether all hold (false when refused), the lowest face that does not (0 when refused)
 pub record Meaning : Type 0 where
   pub number : ℕ
   pub place : ℕ
@@ -72,6 +75,10 @@ pub record FitChecked (r : Road) (cells : List ℕ) (up down : ℕ) (word : List
   pub word-long : length word ≡ length cells + 1
   pub word-legal : legal word ≡ true
 
+-- demand 1 of a refusal, of the fit test's rows
+abbrev pub FitJudged : Road → List ℕ → ℕ → ℕ → List ℕ → Refusal → Type 0
+FitJudged r cells up down word f = Judged (fitRows r cells up down word) (FitChecked r cells up down word) (PairWordPlaced r cells up down word) f
+
 -- what the comparison of the faces reports
 pub record Compared (r : Road) (cells : List ℕ) (up down : ℕ) (word : List ℕ) (f : FitResult) : Type 0 where
   pub holds : f .holds ≡ allHold r cells up down word
@@ -81,3 +88,4 @@ pub record Compared (r : Road) (cells : List ℕ) (up down : ℕ) (word : List �
 pub record Fits (r : Road) (cells : List ℕ) (up down : ℕ) (word : List ℕ) (a : FitAnswer) : Type 0 where
   pub answer : a ≡ fitAnswer r cells up down word
   pub means : meaning a ≡ fitMeaning r cells up down word
+  pub judged : FitJudged r cells up down word (refused (meaning a .number) (meaning a .place))

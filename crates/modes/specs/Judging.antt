@@ -1,4 +1,5 @@
 -- The rows of the refusal table for reading, fit test and row prediction, as document 01 lists them.
+-- A call's shape is its road and its lists' lengths. The shape rows, up to 8, are judged before any density or letter is read; the rows of these follow.
 use mathlib.Core.Bool.{Bool, not}
 use mathlib.Core.List.{List, [], _∷_, _++_}
 use Prim.Native.Nat.{ℕ, _+_}
@@ -22,9 +23,16 @@ badWord n word = or (not (eqb (length word) (n + 1))) (not (legal word))
 abbrev pub wordPlace : ℕ → List ℕ → ℕ
 wordPlace n word = pick (eqb (length word) (n + 1)) (firstOffence letterD word) (n + 1)
 
+-- rows 9 to 12 of a call with one end pair and a word
+abbrev pub pairWordRows : Road → List ℕ → ℕ → ℕ → List ℕ → List Row
+pairWordRows r cells up down word = pairRows r cells up down ++ (row (badWord (length cells) word) 12 (wordPlace (length cells) word) ∷ [])
+
 -- "reading 1–5 and 8–11": both outputs judged by 8, n+1 letters and n modes
+abbrev pub readListRows : ℕ → ℕ → ℕ → List Row
+readListRows n letters modes = row (badCells n) 5 0 ∷ row (or (badOutput (n + 1) letters) (badOutput n modes)) 8 0 ∷ []
+
 abbrev pub readShapeRows : Road → ℕ → ℕ → ℕ → List Row
-readShapeRows r n letters modes = roadRows r ++ (row (badCells n) 5 0 ∷ row (or (badOutput (n + 1) letters) (badOutput n modes)) 8 0 ∷ [])
+readShapeRows r n letters modes = roadRows r ++ readListRows n letters modes
 
 abbrev pub readRows : Road → List ℕ → ℕ → ℕ → ℕ → ℕ → List Row
 readRows r cells up down letters modes = readShapeRows r (length cells) letters modes ++ pairRows r cells up down
@@ -37,20 +45,20 @@ abbrev pub fitShapeRows : Road → ℕ → List Row
 fitShapeRows r n = roadRows r ++ (row (badCells n) 5 0 ∷ [])
 
 abbrev pub fitRows : Road → List ℕ → ℕ → ℕ → List ℕ → List Row
-fitRows r cells up down word =
-    fitShapeRows r (length cells) ++ (pairRows r cells up down ++ (row (badWord (length cells) word) 12 (wordPlace (length cells) word) ∷ []))
+fitRows r cells up down word = fitShapeRows r (length cells) ++ pairWordRows r cells up down word
 
 unfoldable pub fitRefusal : Road → List ℕ → ℕ → ℕ → List ℕ → Refusal
 fitRefusal r cells up down word = judge (fitRows r cells up down word)
 
 -- "row prediction 1–5 and 8–12"
+abbrev pub predictListRows : ℕ → ℕ → List Row
+predictListRows n out = row (badCells n) 5 0 ∷ row (badOutput n out) 8 0 ∷ []
+
 abbrev pub predictShapeRows : Road → ℕ → ℕ → List Row
-predictShapeRows r n out = roadRows r ++ (row (badCells n) 5 0 ∷ row (badOutput n out) 8 0 ∷ [])
+predictShapeRows r n out = roadRows r ++ predictListRows n out
 
 abbrev pub predictRows : Road → List ℕ → ℕ → ℕ → List ℕ → ℕ → List Row
-predictRows r cells up down word out =
-    predictShapeRows r (length cells) out
-    ++ (pairRows r cells up down ++ (row (badWord (length cells) word) 12 (wordPlace (length cells) word) ∷ []))
+predictRows r cells up down word out = predictShapeRows r (length cells) out ++ pairWordRows r cells up down word
 
 unfoldable pub predictRefusal : Road → List ℕ → ℕ → ℕ → List ℕ → ℕ → Refusal
 predictRefusal r cells up down word out = judge (predictRows r cells up down word out)

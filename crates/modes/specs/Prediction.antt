@@ -8,14 +8,15 @@ use lib.IntN.{ℤ}
 use lib.ListN.{length}
 use Rattle.road.specs.Choice.{pick}
 use Rattle.road.specs.Ceilings.{cellsCeiling}
-use Rattle.road.specs.Table.{judge}
+use Rattle.road.specs.Table.{judge, refused, Judged}
 use Rattle.road.specs.Judgement.{Accepted}
 use Rattle.road.specs.declared.Road.{Road}
 use Rattle.road.specs.declared.refusal.Refusal.{Refusal}
 use Rattle.scheme.specs.Sums.{Below}
 use Rattle.modes.specs.Words.{legal}
 use Rattle.modes.specs.Modes.{rowNumerators}
-use Rattle.modes.specs.Judging.{predictShapeRows, predictRefusal}
+use Rattle.modes.specs.Judging.{predictShapeRows, predictRows, predictRefusal}
+use Rattle.modes.specs.Places.{PairWordPlaced}
 use Rattle.modes.specs.declared.prediction.PredictAnswer.{PredictAnswer}
 use Rattle.modes.specs.declared.prediction.PredictAnswer.the-variants.{Done, Refused}
 
@@ -53,9 +54,15 @@ pub record PredictChecked (r : Road) (cells : List ℕ) (up down : ℕ) (word : 
   pub word-long : length word ≡ length cells + 1
   pub word-legal : legal word ≡ true
 
+-- demand 1 of a refusal, of the row prediction's rows
+abbrev pub PredictJudged : Road → List ℕ → ℕ → ℕ → List ℕ → ℕ → Refusal → Type 0
+PredictJudged r cells up down word out f =
+    Judged (predictRows r cells up down word out) (PredictChecked r cells up down word out) (PairWordPlaced r cells up down word) f
+
 -- what the call promises
 pub record Predicts (r : Road) (cells : List ℕ) (up down : ℕ) (word : List ℕ) (out next : List ℤ) (a : PredictAnswer) : Type 0 where
   pub answer : a ≡ predictAnswer r cells up down word (length out)
   pub number : predictNumber a ≡ predictRefusal r cells up down word (length out) .number
   pub place : predictPlace a ≡ predictRefusal r cells up down word (length out) .place
   pub output : next ≡ predicted r cells up down word out
+  pub judged : PredictJudged r cells up down word (length out) (refused (predictNumber a) (predictPlace a))

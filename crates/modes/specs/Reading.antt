@@ -1,19 +1,21 @@
 -- The reading of a state: letters, modes, seven counts and the queued cells (document 01, "Seven modes").
 use mathlib.Core.Path.{_≡_}
+use mathlib.Core.Bool.{Bool}
 use mathlib.Core.List.{List, [], _∷_}
 use Prim.Native.Nat.{ℕ, _+_, _≤_, _<_}
-use lib.Dec.{eqb, leb}
+use lib.Dec.{eqb}
 use lib.ListN.{length, getD}
-use Rattle.road.specs.Choice.{pick}
-use Rattle.road.specs.Table.{judge}
+use Rattle.road.specs.Choice.{pick, or}
+use Rattle.road.specs.Table.{judge, refused, Judged}
 use Rattle.road.specs.Ceilings.{cellsCeiling}
 use Rattle.road.specs.Judgement.{Accepted}
 use Rattle.road.specs.declared.Road.{Road}
 use Rattle.road.specs.declared.refusal.Refusal.{Refusal}
+use Rattle.checks.specs.Places.{Placed}
 use Rattle.scheme.specs.Sums.{sum, Below}
 use Rattle.scheme.specs.Word.{wordOf}
 use Rattle.modes.specs.Modes.{modesOf}
-use Rattle.modes.specs.Judging.{readShapeRows, readRefusal}
+use Rattle.modes.specs.Judging.{readShapeRows, readRows, readRefusal}
 use Rattle.modes.specs.declared.reading.ReadAnswer.{ReadAnswer}
 use Rattle.modes.specs.declared.reading.ReadAnswer.the-variants.{Done, Refused}
 use Rattle.modes.specs.declared.reading.Counts.{Counts}
@@ -28,10 +30,14 @@ countOf k (m ∷ ms) = pick (eqb m k) 1 0 + countOf k ms
 unfoldable pub countsOf : List ℕ → List ℕ
 countsOf ms = countOf 1 ms ∷ countOf 2 ms ∷ countOf 3 ms ∷ countOf 4 ms ∷ countOf 5 ms ∷ countOf 6 ms ∷ countOf 7 ms ∷ []
 
--- the queued cells: those in modes 1, 2 and 3, the lowest of the modes 1 to 7, which source 003 calls congestion
+-- the mode of a queued cell: 1, 2 or 3
+abbrev pub isQueued : ℕ → Bool
+isQueued m = or (eqb m 1) (or (eqb m 2) (eqb m 3))
+
+-- the queued cells: those in modes 1, 2 and 3, which source 003 calls congestion
 unfoldable pub queuedOf : List ℕ → ℕ
 queuedOf [] = 0
-queuedOf (m ∷ ms) = pick (leb m 3) 1 0 + queuedOf ms
+queuedOf (m ∷ ms) = pick (isQueued m) 1 0 + queuedOf ms
 
 -- every mode is one of the seven
 abbrev pub Numbered : List ℕ → Type 0
@@ -59,6 +65,11 @@ pub record ReadChecked (r : Road) (cells : List ℕ) (up down letters modes : �
   pub cells-below : Below (r .jam) cells
   pub up-below : up ≤ r .jam
   pub down-below : down ≤ r .jam
+
+-- demand 1 of a refusal, of the reading's rows
+abbrev pub ReadJudged : Road → List ℕ → ℕ → ℕ → ℕ → ℕ → Refusal → Type 0
+ReadJudged r cells up down letters modes f =
+    Judged (readRows r cells up down letters modes) (ReadChecked r cells up down letters modes) (Placed r cells (up ∷ []) (down ∷ [])) f
 
 -- what the reading answers: the counts beside Done, or the refusal beside all counts 0
 unfoldable pub readAnswer : Road → List ℕ → ℕ → ℕ → ℕ → ℕ → StateReading
@@ -95,4 +106,5 @@ pub record Reads (r : Road) (cells : List ℕ) (up down : ℕ) (letters next-let
   pub place : readPlace (a .answer) ≡ readRefusal r cells up down (length letters) (length modes) .place
   pub letters-written : next-letters ≡ readLetters r cells up down letters modes
   pub modes-written : next-modes ≡ readModes r cells up down letters modes
+  pub judged : ReadJudged r cells up down (length letters) (length modes) (refused (readNumber (a .answer)) (readPlace (a .answer)))
   pub counts-sum : a .answer ≡ Done → sum (a .counts .modes) ≡ length cells

@@ -21,7 +21,8 @@ unfoldable pub firstOffence : ℕ → List ℕ → ℕ
 firstOffence before [] = 0
 firstOffence before (s ∷ ss) = pick (offends before s) 0 (suc (firstOffence s ss))
 
--- a word is legal when every letter is known and W is never followed by D, nor L by L. Any letter may follow D, so the first face stands as if after D
+-- a word is legal when W is never followed by D, nor L by L. A word is letter codes, and check 12 refuses an unknown code as it does an illegal pair,
+-- so the test asks both: every code is known, and no pair is illegal. Any letter may follow D, so the first face stands as if after D
 unfoldable pub legal : List ℕ → Bool
 legal word = eqb (firstOffence letterD word) (length word)
 

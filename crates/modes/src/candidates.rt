@@ -1,14 +1,11 @@
 // Candidate prediction: one row tried on estimates, for a filter that does not know its cell's mode.
 ghost use mathlib.Core.Path.{_≡_};
-ghost use Prim.Native.Nat.{_≤_, _<_};
-ghost use lib.IntN.{pos, _*ℤ_};
+ghost use Prim.Native.Nat.{_≤_};
 ghost use lib.Ieee.{binary64, ofInt};
-ghost use Rattle.road.specs.Ceilings.{divisorCeiling};
 ghost use Rattle.road.specs.Choice.{pick};
 ghost use Rattle.road.specs.Judgement.{Accepted, outside};
-ghost use Rattle.modes.specs.Candidate.{entry, ownCoefficient, constantOf, rowFor, applied, badEstimate, candidateRefusal, Candidates};
-use super::numerators::product;
-use super::numerators::weighted;
+ghost use Rattle.modes.specs.Candidate.{rowFor, applied, badEstimate, candidateRefusal, Candidates};
+use super::numerators::WholeRow;
 use road::Refusal;
 use road::Road;
 
@@ -20,14 +17,14 @@ pub struct CandidateRow {
     pub constant: f64,
 }
 
-// A predicted numerator: the density after one step, times the divisor.
-pub struct Prediction {
+// What an accepted candidate prediction gives: the predicted numerator, the density after one step times the divisor.
+pub struct CandidateResult {
     pub numerator: f64,
 }
 
 // What a candidate prediction answers: the numerator, or the refusal.
 pub enum CandidateAnswer {
-    Done(Prediction),
+    Done(CandidateResult),
     Refused(Refusal),
 }
 
@@ -38,42 +35,6 @@ fn float_of(n: i64) -> f64
     std::num::nearest_i64_to_f64(n)
 }
 
-// Internal: the table's multiplier of a mode in a column, times a speed.
-fn weighted_speed(mode: u8, column: usize, speed: u32) -> i64
-    requires { ⌜ 1 ≤ mode ⌝ }
-    requires { ⌜ mode ≤ 7 ⌝ }
-    requires { ⌜ column < 7 ⌝ }
-    requires { ⌜ speed ≤ divisorCeiling ⌝ }
-    ensures { λ k. ⌜ k ≡ entry mode column *ℤ pos speed ⌝ }
-{
-    weighted(mode, column, speed as i64)
-}
-
-// Internal: D + p × column 1 + q × column 2.
-fn own_coefficient(road: Road, mode: u8) -> i64
-    requires { ⌜ Accepted road ⌝ }
-    requires { ⌜ 1 ≤ mode ⌝ }
-    requires { ⌜ mode ≤ 7 ⌝ }
-    ensures { λ k. ⌜ k ≡ ownCoefficient road mode ⌝ }
-{
-    let free = weighted_speed(mode, 1, road.free);
-    let wave = weighted_speed(mode, 2, road.wave);
-    road.divisor as i64 + free + wave
-}
-
-// Internal: q × C × column 4 + p × C × column 5 + q × J × column 6.
-fn constant_of(road: Road, mode: u8) -> i64
-    requires { ⌜ Accepted road ⌝ }
-    requires { ⌜ 1 ≤ mode ⌝ }
-    requires { ⌜ mode ≤ 7 ⌝ }
-    ensures { λ k. ⌜ k ≡ constantOf road mode ⌝ }
-{
-    let wave = weighted(mode, 4, product(road.wave, road.critical));
-    let free = weighted(mode, 5, product(road.free, road.critical));
-    let full = weighted(mode, 6, product(road.wave, road.jam));
-    wave + free + full
-}
-
 impl CandidateRow {
     // Internal: the row of a mode on an accepted road.
     pub fn of(road: Road, mode: u8) -> CandidateRow
@@ -82,11 +43,12 @@ impl CandidateRow {
         requires { ⌜ mode ≤ 7 ⌝ }
         ensures { λ row. ⌜ row ≡ rowFor road mode ⌝ }
     {
+        let row = WholeRow::of(road, mode);
         CandidateRow {
-            left: float_of(weighted_speed(mode, 0, road.free)),
-            own: float_of(own_coefficient(road, mode)),
-            right: float_of(weighted_speed(mode, 3, road.wave)),
-            constant: float_of(constant_of(road, mode)),
+            left: float_of(row.left),
+            own: float_of(row.own),
+            right: float_of(row.right),
+            constant: float_of(row.constant),
         }
     }
 
@@ -147,7 +109,7 @@ fn judged(road: Road, mode: u8, left: f64, own: f64, right: f64) -> Refusal
 }
 
 // The numerator that the mode's row predicts from three estimates. Where all three are whole it is the whole row's
-// value, exactly.
+// value, exactly. It is never −0.0.
 pub fn candidate(road: Road, mode: u8, left: f64, own: f64, right: f64) -> CandidateAnswer
     ensures { λ a. ⌜ Candidates road mode left own right a ⌝ }
 {
@@ -156,7 +118,7 @@ pub fn candidate(road: Road, mode: u8, left: f64, own: f64, right: f64) -> Candi
         return CandidateAnswer::Refused(refusal);
     }
     let row = CandidateRow::of(road, mode);
-    CandidateAnswer::Done(Prediction {
+    CandidateAnswer::Done(CandidateResult {
         numerator: row.applied(left, own, right),
     })
 }

@@ -3,8 +3,7 @@ ghost use mathlib.Core.Path.{_≡_};
 ghost use Rattle.scheme.specs.Word.{wordOf};
 ghost use Rattle.modes.specs.Judging.{fitRefusal};
 ghost use Rattle.modes.specs.Fit.{firstMisfit, fitShapeRefusal, FitChecked, Compared, Fits};
-use super::pairs::or_pair;
-use super::words::or_word;
+use super::words::or_pair_and_word;
 use road::Refusal;
 use road::Road;
 
@@ -37,8 +36,7 @@ fn judged(road: Road, cells: &[u32], up: u32, down: u32, word: &[u8]) -> Refusal
     if shape.number != 0 {
         return shape;
     }
-    let pair = or_pair(shape, road, cells, up, down);
-    or_word(pair, cells.len(), word)
+    or_pair_and_word(shape, road, cells, up, down, word)
 }
 
 // Internal: the lowest face whose letter is not the word's, or the number of faces where each is.

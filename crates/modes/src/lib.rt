@@ -5,7 +5,6 @@ mod counting;
 mod fitting;
 mod mode;
 mod numerators;
-mod pairs;
 mod prediction;
 mod reading;
 mod tallying;
@@ -13,7 +12,7 @@ mod words;
 mod writing;
 
 pub use candidates::CandidateAnswer;
-pub use candidates::Prediction;
+pub use candidates::CandidateResult;
 pub use candidates::candidate;
 pub use counting::CountAnswer;
 pub use counting::WordCount;

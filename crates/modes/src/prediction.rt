@@ -5,9 +5,8 @@ ghost use Rattle.modes.specs.Modes.{rowNumerators};
 ghost use Rattle.modes.specs.Judging.{predictRefusal};
 ghost use Rattle.modes.specs.Prediction.{predictShapeRefusal, PredictChecked, Predicts};
 use super::mode::mode_of;
-use super::numerators::row_value;
-use super::pairs::or_pair;
-use super::words::or_word;
+use super::numerators::rows_of;
+use super::words::or_pair_and_word;
 use road::Refusal;
 use road::Road;
 
@@ -37,8 +36,7 @@ fn judged(road: Road, cells: &[u32], up: u32, down: u32, word: &[u8], out: usize
     if shape.number != 0 {
         return shape;
     }
-    let pair = or_pair(shape, road, cells, up, down);
-    or_word(pair, cells.len(), word)
+    or_pair_and_word(shape, road, cells, up, down, word)
 }
 
 // Internal: the output then holds a numerator for each cell, by the row of the letters on its two faces.
@@ -46,13 +44,15 @@ fn write_rows(road: Road, cells: &[u32], up: u32, down: u32, word: &[u8], out: &
     requires { ⌜ PredictChecked road (now cells) up down (now word) (length (now out)) ⌝ }
     ensures { λ _. ⌜ now (out .exit) ≡ rowNumerators road up down (now (word .entry)) (now (cells .entry)) ⌝ }
 {
+    let rows = rows_of(road);
     let mut left = up;
     let mut i = 0;
     while i < cells.len() {
         let own = cells[i];
         let right = scheme::density_at(cells, i + 1, down);
-        let mode = mode_of(word[i], word[i + 1]);
-        out[i] = row_value(road, mode, left, own, right);
+        let place = (mode_of(word[i], word[i + 1]) - 1) as usize;
+        let row = rows[place];
+        out[i] = row.applied(left, own, right);
         left = own;
         i += 1;
     }

@@ -50,13 +50,7 @@ fn judged(road: Road, cells: &[u32], up: u32, down: u32, letters: usize, modes: 
     if shape.number != 0 {
         return shape;
     }
-    let cell = checks::first_above(road.jam, cells);
-    let up_high = checks::is_above(road.jam, up);
-    let down_high = checks::is_above(road.jam, down);
-    shape
-        .or_if(cell < cells.len(), 9, (cell + 1) as u32)
-        .or_if(up_high, 10, 0)
-        .or_if(down_high, 11, 0)
+    checks::or_pair(shape, road, cells, up, down)
 }
 
 // The letters hold the letter of every face and the modes the mode of every cell; the answer has the seven counts, whose

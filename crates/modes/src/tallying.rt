@@ -1,18 +1,24 @@
 // The counts of a reading: how many cells are in each mode, and how many are queued.
 ghost use mathlib.Core.Path.{_≡_};
 ghost use Prim.Native.Nat.{_≤_};
-ghost use lib.Dec.{leb};
 ghost use lib.ListN.{length};
 ghost use Rattle.road.specs.Choice.{pick};
 ghost use Rattle.road.specs.Ceilings.{cellsCeiling};
-ghost use Rattle.modes.specs.Reading.{Numbered, tallied};
+ghost use Rattle.modes.specs.Reading.{Numbered, isQueued, tallied};
 use super::reading::Counts;
+
+// Internal: whether a mode is that of a queued cell: 1, 2 or 3.
+fn is_queued(mode: u8) -> bool
+    ensures { λ b. ⌜ b ≡ isQueued mode ⌝ }
+{
+    road::either(mode == 1, road::either(mode == 2, mode == 3))
+}
 
 // Internal: 1 for a queued cell's mode, 0 for another.
 fn queued_one(mode: u8) -> u32
-    ensures { λ q. ⌜ q ≡ pick (leb mode 3) 1 0 ⌝ }
+    ensures { λ q. ⌜ q ≡ pick (isQueued mode) 1 0 ⌝ }
 {
-    if mode <= 3 { 1 } else { 0 }
+    if is_queued(mode) { 1 } else { 0 }
 }
 
 // Internal: the counts of a list of modes.

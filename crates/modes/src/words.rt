@@ -1,17 +1,19 @@
 // Words: the lowest face that offends, and row 12 of the refusal table.
 ghost use mathlib.Core.Path.{_≡_};
 ghost use Prim.Native.Nat.{_≤_};
+ghost use lib.ListN.{length};
 ghost use Rattle.road.specs.Ceilings.{cellsCeiling};
-ghost use Rattle.road.specs.Table.{orIf};
+ghost use Rattle.road.specs.Table.{orIf, judgeBelow};
 ghost use Rattle.flux.specs.Face.{letterD};
 ghost use Rattle.modes.specs.Words.{illegalPair, offends, firstOffence};
-ghost use Rattle.modes.specs.Judging.{badWord, wordPlace};
+ghost use Rattle.modes.specs.Judging.{badWord, wordPlace, pairWordRows};
 use road::Refusal;
+use road::Road;
 
 // The letters' codes.
-const W: u8 = 0;
+pub const W: u8 = 0;
 
-const L: u8 = 1;
+pub const L: u8 = 1;
 
 const D: u8 = 2;
 
@@ -19,25 +21,19 @@ const D: u8 = 2;
 fn is_illegal(s: u8, t: u8) -> bool
     ensures { λ b. ⌜ b ≡ illegalPair s t ⌝ }
 {
-    if s == W {
-        t == D
-    } else if s == L {
-        t == L
-    } else {
-        false
-    }
+    ((s == W) & (t == D)) | ((s == L) & (t == L))
 }
 
 // Internal: whether a face offends, after the letter before it: by an unknown code, or as the second of an illegal pair.
 fn offends(before: u8, s: u8) -> bool
     ensures { λ b. ⌜ b ≡ offends before s ⌝ }
 {
-    road::either(D < s, is_illegal(before, s))
+    (D < s) | is_illegal(before, s)
 }
 
 // Internal: the lowest face that offends, or the number of faces where none does. Any letter may follow D, so the first
 // face stands as if after D.
-pub fn first_offence(word: &[u8]) -> usize
+fn first_offence(word: &[u8]) -> usize
     ensures { λ k. ⌜ k ≡ firstOffence letterD (now (word .entry)) ⌝ }
 {
     let mut before = D;
@@ -53,36 +49,32 @@ pub fn first_offence(word: &[u8]) -> usize
     i
 }
 
-// Internal: 12, a word of another length than n+1, or not legal. A word of another length is not searched, however long.
-pub fn bad_word(n: usize, word: &[u8]) -> bool
-    requires { ⌜ n ≤ cellsCeiling ⌝ }
-    ensures { λ b. ⌜ b ≡ badWord n (now (word .entry)) ⌝ }
-{
-    if word.len() == n + 1 {
-        first_offence(word) != word.len()
-    } else {
-        true
-    }
-}
-
-// Internal: the place of 12: n+1 for the length, otherwise the lowest face that offends.
-pub fn word_place(n: usize, word: &[u8]) -> u32
-    requires { ⌜ n ≤ cellsCeiling ⌝ }
-    ensures { λ p. ⌜ p ≡ wordPlace n (now (word .entry)) ⌝ }
-{
-    if word.len() == n + 1 {
-        first_offence(word) as u32
-    } else {
-        (n + 1) as u32
-    }
-}
-
-// Internal: row 12 below a refusal by the rows above.
-pub fn or_word(above: Refusal, n: usize, word: &[u8]) -> Refusal
+// Internal: row 12 below a refusal by the rows above: a word of another length than n+1, whose place is n+1, or one that
+// is not legal, whose place is the lowest face that offends. A word of another length is not searched, however long.
+fn or_word(above: Refusal, n: usize, word: &[u8]) -> Refusal
     requires { ⌜ n ≤ cellsCeiling ⌝ }
     ensures { λ f. ⌜ f ≡ orIf above (badWord n (now (word .entry))) 12 (wordPlace n (now (word .entry))) ⌝ }
 {
-    let bad = bad_word(n, word);
-    let place = word_place(n, word);
-    above.or_if(bad, 12, place)
+    if word.len() == n + 1 {
+        let face = first_offence(word);
+        above.or_if(face != word.len(), 12, face as u32)
+    } else {
+        above.or_if(true, 12, (n + 1) as u32)
+    }
+}
+
+// Internal: rows 9 to 12 of one end pair and a word, below a refusal by the rows above.
+pub fn or_pair_and_word(
+    above: Refusal,
+    road: Road,
+    cells: &[u32],
+    up: u32,
+    down: u32,
+    word: &[u8],
+) -> Refusal
+    requires { ⌜ length (now cells) ≤ cellsCeiling ⌝ }
+    ensures { λ f. ⌜ f ≡ judgeBelow above (pairWordRows road (now (cells .entry)) up down (now (word .entry))) ⌝ }
+{
+    let pair = checks::or_pair(above, road, cells, up, down);
+    or_word(pair, cells.len(), word)
 }

@@ -10,7 +10,7 @@ use lib.Dec.{T, ltb, ltb→lt}
 use lib.ListN.{length, getD}
 use borrow.Author.Tests.{ne-eqb}
 use Rattle.road.specs.Choice.{both}
-use Rattle.road.specs.Table.{refused, passed, orIf, Row, row, judgeBelow, judge, rising, Applies, Lowest}
+use Rattle.road.specs.Table.{refused, passed, orIf, Row, row, judgeBelow, judge, rising, Applies, Lowest, Judged}
 use Rattle.road.specs.declared.refusal.Refusal.{Refusal}
 
 -- one row of code: the row above, the condition and the place as they were shown to be
@@ -197,3 +197,22 @@ row-returned rows t j h e =
     let (i, l, q) = the-rule rows t .applies (omega arith) in
     let same : i ≡ j = number-once 0 rows t i j l h (ap (λ (r : Row). r .number) q ∙ e) in
     ap (λ (n : ℕ). getD rows n (row true 0 0)) (sym same) ∙ q
+
+-- a row below a part is a row of the whole, and what is returned of it likewise
+row-of-whole : (above below : List Row) (k : ℕ) → k < length below
+    → (i : ℕ) × (i < length (above ++ below)) × (getD (above ++ below) i (row true 0 0) ≡ getD below k (row true 0 0))
+row-of-whole [] below k h = (k, h, refl)
+row-of-whole (r ∷ rs) below k h = let (i, l, e) = row-of-whole rs below k h in (suc i, suc-le-suc l, e)
+
+pub row-returned-below : (above below : List Row) → T (rising 0 (above ++ below)) → (k : ℕ) → k < length below
+    → judge (above ++ below) .number ≡ (getD below k (row true 0 0)) .number
+    → getD below k (row true 0 0) ≡ row true (judge (above ++ below) .number) (judge (above ++ below) .place)
+row-returned-below above below t k h e =
+    let (i, l, q) = row-of-whole above below k h in
+    sym q ∙ row-returned (above ++ below) t i l (e ∙ sym (ap (λ (r : Row). r .number) q))
+
+-- demand 1 of a table whose numbers rise
+pub judged-rows : (rows : List Row) → T (rising 0 rows) → {Checked : Type 0} (Placed : Refusal → Type 0) → Placed (judge rows)
+    → (judge rows .number ≡ 0 → Checked) → (Checked → judge rows ≡ passed) → Judged rows Checked Placed (judge rows)
+judged-rows rows t Placed placed of passes =
+    record { lowest = the-rule rows t; placed = placed; accepted = of; no-other = λ c. ap (λ (f : Refusal). f .number) (passes c) }

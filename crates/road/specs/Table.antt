@@ -52,3 +52,10 @@ pub record Lowest (rows : List Row) (f : Refusal) : Type 0 where
   pub applies : 0 < f .number → Applies rows (f .number) (f .place)
   pub returned : (number place : ℕ) → Applies rows number place → 0 < f .number
   pub lowest : (number place : ℕ) → Applies rows number place → f .number ≤ number
+
+-- demand 1 of a refusal (number 0 for none), of a call's rows: the lowest number that applies, at the place that the table says; none exactly where the input is checked
+pub record Judged (rows : List Row) (Checked : Type 0) (Placed : Refusal → Type 0) (f : Refusal) : Type 0 where
+  pub lowest : Lowest rows f
+  pub placed : Placed f
+  pub accepted : f .number ≡ 0 → Checked
+  pub no-other : Checked → f .number ≡ 0

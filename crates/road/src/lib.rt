@@ -3,6 +3,11 @@ mod ceilings;
 mod judgement;
 mod refusal;
 
+pub use ceilings::cells_ceiling;
+pub use ceilings::count_ceiling;
+pub use ceilings::divisor_ceiling;
+pub use ceilings::horizon_ceiling;
+pub use ceilings::jam_ceiling;
 pub use judgement::either;
 pub use judgement::judged;
 pub use refusal::Refusal;

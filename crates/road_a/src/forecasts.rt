@@ -86,6 +86,7 @@ pub fn refused() {
     refused_road(b"C 1000", roads::road(5, 4, 1, 1000, 1000));
     refused_road(b"C 201", roads::road(5, 4, 1, 1000, 201));
     refused_lists();
+    refused_outputs();
     refused_values();
 }
 
@@ -95,6 +96,9 @@ fn refused_lists() {
     refused_ends(b"T 4097 with ends of 1", &[100], &[0], 4097);
     refused_ends(b"two upstream ends for T 1", &[100, 100], &[0], 1);
     refused_ends(b"no downstream end for T 1", &[100], &none[..0], 1);
+}
+
+fn refused_outputs() {
     refused_output(b"output of 2 for 3 cells", &[300, 150, 700]);
     refused_output(b"output of 2 and a cell above J", &[300, 1001, 700]);
 }

@@ -70,15 +70,32 @@ fn long_output() {
     say::text(b"\n");
 }
 
-pub fn rows() {
-    worked();
+fn values() {
     single(b"of D W on an empty cell", 0, &[2, 0], -1000, b" -1000");
     single(b"of D W on a cell of 200", 200, &[2, 0], 0, b" 0");
     single(b"of D W on a cell of 201", 201, &[2, 0], 5, b" 5");
+}
+
+fn refused() {
     single(b"of W D, an illegal pair", 0, &[0, 2], 7, b" 7");
     single(b"of one letter for one cell", 0, &[2], 7, b" 7");
     single(b"of a cell above J", 1001, &[2, 2], 7, b" 7");
+}
+
+pub fn rows() {
+    worked();
+    values();
+    refused();
     long_output();
+}
+
+// Whether two floats are the same, the sign of a zero counted: one divided by them tells 0.0 from -0.0.
+fn same(x: f64, expected: f64) -> bool {
+    if x == expected {
+        1.0 / x == 1.0 / expected
+    } else {
+        false
+    }
 }
 
 // One candidate prediction on a road, held to the numerator that it should give.
@@ -87,7 +104,7 @@ fn show(name: &[u8], r: Road, mode: u8, left: f64, own: f64, right: f64, expecte
     say::text(name);
     match modes::candidate(r, mode, left, own, right) {
         CandidateAnswer::Done(p) => {
-            if p.numerator == expected {
+            if same(p.numerator, expected) {
                 say::text(b": as expected");
             } else {
                 say::text(b": another value");
@@ -101,7 +118,7 @@ fn show(name: &[u8], r: Road, mode: u8, left: f64, own: f64, right: f64, expecte
     say::text(b"\n");
 }
 
-pub fn candidates() {
+fn numerators() {
     let a = roads::road_a();
     show(
         b"mode 6 on 100 300 150: 1100",
@@ -114,13 +131,27 @@ pub fn candidates() {
     );
     show(b"mode 5 on 0 0 0: -1000", a, 5, 0.0, 0.0, 0.0, -1000.0);
     show(b"mode 7 on a half unit: 2", a, 7, 0.5, 0.0, 0.0, 2.0);
-    show(b"mode 7 with -0.0", a, 7, -0.0, 0.0, 0.0, 0.0);
+    show(b"mode 7 on -0.0 -0.0 -0.0: 0", a, 7, -0.0, -0.0, -0.0, 0.0);
+}
+
+fn refused_modes() {
+    let a = roads::road_a();
     show(b"mode 0", a, 0, 0.0, 0.0, 0.0, 0.0);
     show(b"mode 8", a, 8, 0.0, 0.0, 0.0, 0.0);
+}
+
+fn refused_estimates() {
+    let a = roads::road_a();
     show(b"left below 0", a, 1, -1.0, 2000.0, 0.0, 0.0);
     show(b"own above J", a, 1, 1000.0, 1000.5, -1.0, 0.0);
     show(b"right infinite", a, 1, 1000.0, 1000.0, 1.0 / 0.0, 0.0);
     show(b"right not a number", a, 1, 1000.0, 1000.0, 0.0 / 0.0, 0.0);
+}
+
+pub fn candidates() {
+    numerators();
+    refused_modes();
+    refused_estimates();
     show(
         b"on a road with p 6",
         roads::road(5, 6, 1, 1000, 200),

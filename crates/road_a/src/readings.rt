@@ -91,7 +91,7 @@ fn long(name: &[u8], n: usize) {
     }
 }
 
-pub fn cases() {
+fn shapes() {
     let none = [0u32; 1];
     three(
         b"cells 300 150 700 between 100 and 0",
@@ -109,6 +109,9 @@ pub fn cases() {
     );
     three(b"no cells", roads::road_a(), &none[..0], 100, 0);
     short(b"four modes for three cells");
+}
+
+fn values() {
     three(
         b"cell 3 above J",
         roads::road_a(),
@@ -130,6 +133,11 @@ pub fn cases() {
         1000,
         1001,
     );
+}
+
+pub fn cases() {
+    shapes();
+    values();
     long(b"n 1", 1);
     long(b"n 256", 256);
     long(b"n 257", 257);
@@ -160,14 +168,22 @@ fn word(name: &[u8], letters: &[u8]) {
     fit(name, roads::road_a(), &[300, 150, 700], 100, 0, letters);
 }
 
-pub fn fits() {
+fn held_to_words() {
     word(b"D L W L, the state's own", &[2, 1, 0, 1]);
     word(b"D L W W", &[2, 1, 0, 0]);
     word(b"W L W W", &[0, 1, 0, 0]);
+}
+
+fn refused_words() {
     word(b"of three letters for three cells", &[2, 1, 0]);
     word(b"with an unknown code at face 2", &[2, 1, 3, 1]);
     word(b"D W D L, an illegal pair", &[2, 0, 2, 1]);
     word(b"L L W L, an illegal pair", &[1, 1, 0, 1]);
+}
+
+pub fn fits() {
+    held_to_words();
+    refused_words();
     fit(
         b"on a road with p 6",
         roads::road(5, 6, 1, 1000, 200),

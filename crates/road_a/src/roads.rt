@@ -30,13 +30,16 @@ fn judge(name: &[u8], r: Road) {
     say::text(b"\n");
 }
 
-pub fn cases() {
+fn narrow() {
     judge(b"road A", road_a());
     judge(b"road J 2, C 1, D p q all 1", road(1, 1, 1, 2, 1));
     judge(b"road A with p 6", road(5, 6, 1, 1000, 200));
     judge(b"road A with C 1000", road(5, 4, 1, 1000, 1000));
     judge(b"road A with C 201", road(5, 4, 1, 1000, 201));
     judge(b"road A with D 0 and J 1", road(0, 4, 1, 1, 200));
+}
+
+fn wide() {
     judge(b"road D p q 4096, J 1000000, C 500000", widest());
     judge(b"road D 4097", road(4097, 4096, 4096, 1_000_000, 500_000));
     judge(
@@ -53,4 +56,9 @@ pub fn cases() {
             4_294_967_295,
         ),
     );
+}
+
+pub fn cases() {
+    narrow();
+    wide();
 }

@@ -50,7 +50,7 @@ fn double(name: &[u8], cells: &[u32], up: u32, down: u32, horizon: u32) {
     show(name, roads::road_a(), cells, up, down, horizon, &mut out);
 }
 
-pub fn cases() {
+fn worked() {
     single(b"one cell 2, ends 0, T 9", roads::road_a(), 2, 9);
     single(b"one cell 1000, ends 0, T 3", roads::road_a(), 1000, 3);
     single(
@@ -60,12 +60,24 @@ pub fn cases() {
         4096,
     );
     single(b"one cell 2, T 0", roads::road_a(), 2, 0);
+}
+
+fn refused() {
     single(b"C 201", roads::road(5, 4, 1, 1000, 201), 2, 9);
     single(b"T 4097", roads::road_a(), 2, 4097);
+}
+
+fn refused_pairs() {
     double(b"output of 2 for 1 cell", &[2], 0, 0, 9);
     double(b"cell 2 above J", &[1000, 1001], 1001, 1001, 9);
     double(b"upstream above J, T 0", &[1000, 1000], 1001, 1001, 0);
     double(b"downstream above J", &[1000, 1000], 1000, 1001, 9);
+}
+
+pub fn cases() {
+    worked();
+    refused();
+    refused_pairs();
     long(
         b"n 256, a jam that dissolves",
         roads::road_a(),

@@ -74,14 +74,14 @@ both-second true b e = e
 both-second false b e = absurd (false≢true e)
 
 -- two words that a test finds the same are the same
-same-words : (ss ts : List ℕ) → sameWord ss ts ≡ true → ss ≡ ts
+pub same-words : (ss ts : List ℕ) → sameWord ss ts ≡ true → ss ≡ ts
 unfolding sameWord
 same-words [] [] e = refl
 same-words [] (t ∷ ts) e = absurd (false≢true e)
 same-words (s ∷ ss) [] e = absurd (false≢true e)
 same-words (s ∷ ss) (t ∷ ts) e = ap₂ _∷_ (eqb-true s t (both-first (eqb s t) (sameWord ss ts) e)) (same-words ss ts (both-second (eqb s t) (sameWord ss ts) e))
 
-words-same : (ss : List ℕ) → sameWord ss ss ≡ true
+pub words-same : (ss : List ℕ) → sameWord ss ss ≡ true
 unfolding sameWord
 words-same [] = refl
 words-same (s ∷ ss) = rw (eq-eqb s s refl) (words-same ss)

@@ -1,3 +1,4 @@
+-- The theorems of the scheme: range, balance, order and distance of a step and of a run, the loops of the code, and settling.
 pub mod Lists
 pub mod Shape
 pub mod Range

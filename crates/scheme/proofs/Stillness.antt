@@ -1,7 +1,7 @@
 -- The test of stillness, midway: the faces before i are compared, and the new densities are worked as the step does.
 use mathlib.Core.Path.{_≡_, _∙_, refl, sym, ap, ap₂}
 use mathlib.Core.Bool.{Bool, true, false}
-use mathlib.Core.List.{List, _∷_}
+use mathlib.Core.List.{List, [], _∷_}
 use Prim.Native.Nat.{ℕ, suc, _+_, _-_, _≤_, _<_}
 use native.Mathlib.Nat.{one-mul}
 use native.Mathlib.Numerals.{add-one}
@@ -19,33 +19,31 @@ use Rattle.scheme.specs.Advance.{ahead, advance, outflow, entering, leav
 use Rattle.scheme.specs.Sums.{sum, Below}
 use Rattle.scheme.specs.Rounded.{moved, roundStep}
 use Rattle.scheme.specs.Word.{wordOf}
-use Rattle.scheme.specs.Settling.{sameWord, still}
+use Rattle.scheme.specs.Settling.{sameWord, keepsLetters, still}
 use Rattle.scheme.proofs.Laws.{round-laws}
 use Rattle.scheme.proofs.Ahead.{ahead-first, ahead-at}
 use Rattle.scheme.proofs.Balance.{stepped-balance}
-use Rattle.scheme.proofs.InPlace.{advance-cell, outflow-cell, in-room}
+use Rattle.scheme.proofs.InPlace.{advance-cell, in-room}
 
 -- the comparison of the faces of a list, between old and new densities to its left
 abbrev compared : Road → ℕ → ℕ → ℕ → ℕ → ℕ → List ℕ → Bool
 compared r down old-left new-left i inflow xs =
     sameWord (wordOf r old-left down xs) (wordOf r new-left down (advance 1 (moved r) i inflow down xs))
 
-pub record Comparing (r : Road) (up down : ℕ) (x : List ℕ) (first : ℕ) (same : Bool) (old-left new-left inflow i : ℕ) : Type 0 where
+pub record Comparing (r : Road) (up down : ℕ) (x : List ℕ) (old-left new-left inflow i : ℕ) : Type 0 where
   pub inside : i ≤ length x
   pub old-below : old-left ≤ r .jam
   pub new-below : new-left ≤ r .jam
   pub room : i < length x → getD x i 0 + inflow ≤ r .jam
-  pub letters : both same (compared r down old-left new-left (suc i) inflow (drop i x)) ≡ sameWord (wordOf r up down x) (wordOf r up down (roundStep r up down x))
-  pub entered : first ≡ entering (moved r) up down x
-  pub left : outflow (moved r) (suc i) inflow down (drop i x) ≡ leaving (moved r) up down x
-
-both-assoc : (a b c : Bool) → both (both a b) c ≡ both a (both b c)
-both-assoc true b c = refl
-both-assoc false b c = refl
+  pub letters : compared r down old-left new-left (suc i) inflow (drop i x) ≡ keepsLetters r up down x
 
 both-true : (a : Bool) → both a true ≡ a
 both-true true = refl
 both-true false = refl
+
+both-false : (a : Bool) → both a false ≡ false
+both-false true = refl
+both-false false = refl
 
 -- two tests of equal numbers that hold together are one
 same-test : (a b c d : ℕ) → (a ≡ b → c ≡ d) → (c ≡ d → a ≡ b) → eqb a b ≡ eqb c d
@@ -64,63 +62,88 @@ module _ (r : Road) (ok : Accepted r) (up down : ℕ) (x : List ℕ) where
       same-test (entering (moved r) up down x) (leaving (moved r) up down x) (sum x) (sum (stepped 1 (moved r) up down x))
       (λ e. omega arith) (λ e. omega arith)
 
-  pub begins : (first : ℕ) → 0 < length x → Below (r .jam) x → up ≤ r .jam → first ≡ units r (numerator r up (getD x 0 0)) → Comparing r up down x first true up up first 0
-  unfolding roundStep stepped entering leaving moved
-  begins first pos h u e =
-      let same : first ≡ entering (moved r) up down x = e ∙ ap (λ (b : ℕ). units r (numerator r up b)) (sym (ahead-first down x pos)) in
-      record {
-        inside = omega arith;
-        old-below = u;
-        new-below = u;
-        room = λ l. let f = in-room r ok up (getD x 0 0) (h 0) in omega arith;
-        letters = ap (λ (w : ℕ). sameWord (wordOf r up down x) (wordOf r up down (advance 1 (moved r) 1 w down x))) same;
-        entered = same;
-        left = ap (λ (w : ℕ). outflow (moved r) 1 w down x) same;
-      }
+  -- the flow over face 0, as the code works it
+  pub first-enters : 0 < length x → {first : ℕ} → first ≡ units r (numerator r up (getD x 0 0)) → first ≡ entering (moved r) up down x
+  unfolding entering moved
+  first-enters pos e = e ∙ ap (λ (b : ℕ). units r (numerator r up b)) (sym (ahead-first down x pos))
 
-  module _ (first : ℕ) (same : Bool) (old-left new-left inflow i : ℕ) (now : Comparing r up down x first same old-left new-left inflow i) where
-    turn : (next out : ℕ) (kept : Bool) → i < length x → Below (r .jam) x → next ≡ ahead down (drop (suc i) x)
-        → out ≡ units r (numerator r (getD x i 0) next)
-        → kept ≡ eqb (letter r old-left (getD x i 0)) (letter r new-left (getD x i 0 + inflow - out))
-        → Comparing r up down x first (both same kept) (getD x i 0) (getD x i 0 + inflow - out) out (suc i)
-    unfolding moved wordOf sameWord
-    turn next out kept h below n e k =
-        let own = getD x i 0 in
-        let new = own + inflow - out in
-        let rest = drop (suc i) x in
-        let here : drop i x ≡ own ∷ rest = drop-cons x i 0 h in
-        let over : out ≡ moved r (suc i) own (ahead down rest) = e ∙ ap (λ (b : ℕ). units r (numerator r own b)) n in
-        let cell : compared r down old-left new-left (suc i) inflow (drop i x) ≡ both kept (compared r down own new (suc (suc i)) out rest) =
-        ap₂ sameWord (ap (wordOf r old-left down) here) (ap (wordOf r new-left down) (advance-cell (moved r) (suc i) inflow down own here out over))
-        ∙ ap (λ (b : Bool). both b (compared r down own new (suc (suc i)) out rest)) (sym k)
-        in
-        record {
-          inside = h;
-          old-below = below i;
-          new-below = let room = now .room h in omega arith;
-          room = λ l.
-              let same-next : next ≡ getD x (suc i) 0 = n ∙ ahead-at down (suc i) x l in
-              rw (← same-next, e) (in-room r ok own next (rw same-next (below (suc i))));
-          letters = both-assoc same kept (compared r down own new (suc (suc i)) out rest) ∙ ap (both same) (sym cell) ∙ now .letters;
-          entered = now .entered;
-          left = sym (outflow-cell (moved r) (suc i) inflow down own here out over) ∙ now .left;
-        }
+  -- and that over face n, which the last cell sends
+  outflow-last : (i inflow : ℕ) (xs : List ℕ) → 0 < length xs → units r (numerator r (getD xs (length xs - 1) 0) down) ≡ outflow (moved r) i inflow down xs
+  unfolding outflow moved ahead
+  outflow-last i inflow [] h = absurd (omega arith)
+  outflow-last i inflow (a ∷ []) h = refl
+  outflow-last i inflow (a ∷ b ∷ xs) h =
+      let less : length (a ∷ b ∷ xs) - 1 ≡ suc (length (b ∷ xs) - 1) = omega arith in
+      ap (λ (k : ℕ). units r (numerator r (getD (a ∷ b ∷ xs) k 0) down)) less ∙ outflow-last (suc i) (units r (numerator r a b)) (b ∷ xs) (omega arith)
 
-    -- the same, with the index and the flag as the code has them
-    pub turns : (next out : ℕ) (kept both-now : Bool) → i < length x → Below (r .jam) x → next ≡ ahead down (drop (i + 1) x)
-        → out ≡ units r (numerator r (getD x i 0) next)
-        → kept ≡ eqb (letter r old-left (getD x i 0)) (letter r new-left (getD x i 0 + inflow - out))
-        → both-now ≡ both same kept
-        → Comparing r up down x first both-now (getD x i 0) (getD x i 0 + inflow - out) out (i + 1)
-    turns next out kept both-now h below n e k b = rw (b, add-one i) (turn next out kept h below (rw (add-one i) at n) e k)
+  last-leaves : 0 < length x → {last : ℕ} → last ≡ units r (numerator r (getD x (length x - 1) 0) down) → last ≡ leaving (moved r) up down x
+  unfolding leaving
+  last-leaves pos e = e ∙ outflow-last 1 (entering (moved r) up down x) x pos
 
-    pub ends : (last : Bool) → length x ≤ i → last ≡ eqb (letter r old-left down) (letter r new-left down) → both (both same last) (eqb first inflow) ≡ still r up down x
-    unfolding still wordOf sameWord advance outflow
-    ends last h e =
-        let none = drop-of-length-le x h in
-        let over : inflow ≡ leaving (moved r) up down x = rw none at (now .left) in
-        let words : both same last ≡ sameWord (wordOf r up down x) (wordOf r up down (roundStep r up down x)) =
-        ap (both same) (e ∙ sym (both-true (eqb (letter r old-left down) (letter r new-left down))))
-        ∙ (rw none at (now .letters))
-        in
-        ap₂ both words (ap₂ eqb (now .entered) over ∙ sum-kept)
+  -- where both are equal the letters decide; otherwise the step is not still
+  module _ (pos : 0 < length x) {first last : ℕ} (e : first ≡ units r (numerator r up (getD x 0 0)))
+      (q : last ≡ units r (numerator r (getD x (length x - 1) 0) down)) where
+    sums : eqb first last ≡ eqb (sum x) (sum (roundStep r up down x))
+    sums = ap₂ eqb (first-enters pos e) (last-leaves pos q) ∙ sum-kept
+
+    pub equal : first ≡ last → keepsLetters r up down x ≡ still r up down x
+    unfolding still
+    equal h = sym (ap (both (keepsLetters r up down x)) (sym sums ∙ eq-eqb first last h) ∙ both-true (keepsLetters r up down x))
+
+    pub unequal : (first ≡ last → ⊥) → false ≡ still r up down x
+    unfolding still
+    unequal n = sym (ap (both (keepsLetters r up down x)) (sym sums ∙ ne-eqb first last n) ∙ both-false (keepsLetters r up down x))
+
+  pub begins : (first : ℕ) → Below (r .jam) x → up ≤ r .jam → first ≡ entering (moved r) up down x → Comparing r up down x up up first 0
+  unfolding roundStep stepped entering moved
+  begins first h u e = record {
+    inside = omega arith;
+    old-below = u;
+    new-below = u;
+    room = λ l. let f = in-room r ok up (getD x 0 0) (h 0) in let g = e ∙ ap (λ (b : ℕ). units r (numerator r up b)) (ahead-first down x l) in omega arith;
+    letters = ap (λ (w : ℕ). sameWord (wordOf r up down x) (wordOf r up down (advance 1 (moved r) 1 w down x))) e;
+  }
+
+  module _ (old-left new-left inflow i : ℕ) (now : Comparing r up down x old-left new-left inflow i) where
+    -- the next face with its new density, by what the code worked out
+    module _ (next out : ℕ) (h : i < length x) (n : next ≡ ahead down (drop (suc i) x)) (e : out ≡ units r (numerator r (getD x i 0) next)) where
+      cell : both (eqb (letter r old-left (getD x i 0)) (letter r new-left (getD x i 0 + inflow - out)))
+          (compared r down (getD x i 0) (getD x i 0 + inflow - out) (suc (suc i)) out (drop (suc i) x)) ≡ keepsLetters r up down x
+      unfolding moved wordOf sameWord
+      cell =
+          let own = getD x i 0 in
+          let here : drop i x ≡ own ∷ drop (suc i) x = drop-cons x i 0 h in
+          let over : out ≡ moved r (suc i) own (ahead down (drop (suc i) x)) = e ∙ ap (λ (b : ℕ). units r (numerator r own b)) n in
+          sym (ap₂ sameWord (ap (wordOf r old-left down) here) (ap (wordOf r new-left down) (advance-cell (moved r) (suc i) inflow down own here out over)))
+          ∙ now .letters
+
+      changed : eqb (letter r old-left (getD x i 0)) (letter r new-left (getD x i 0 + inflow - out)) ≡ false → false ≡ keepsLetters r up down x
+      changed k = rw k at cell
+
+      turn : eqb (letter r old-left (getD x i 0)) (letter r new-left (getD x i 0 + inflow - out)) ≡ true → Below (r .jam) x
+          → Comparing r up down x (getD x i 0) (getD x i 0 + inflow - out) out (suc i)
+      turn k below =
+          let own = getD x i 0 in
+          record {
+            inside = h;
+            old-below = below i;
+            new-below = let room = now .room h in omega arith;
+            room = λ l.
+                let same-next : next ≡ getD x (suc i) 0 = n ∙ ahead-at down (suc i) x l in
+                rw (← same-next, e) (in-room r ok own next (rw same-next (below (suc i))));
+            letters = rw k at cell;
+          }
+
+    -- the same, with the index as the code has it
+    pub changes : (next out : ℕ) → i < length x → next ≡ ahead down (drop (i + 1) x) → out ≡ units r (numerator r (getD x i 0) next)
+        → eqb (letter r old-left (getD x i 0)) (letter r new-left (getD x i 0 + inflow - out)) ≡ false → false ≡ keepsLetters r up down x
+    changes = rw (add-one i) changed
+
+    pub turns : (next out : ℕ) → i < length x → next ≡ ahead down (drop (i + 1) x) → out ≡ units r (numerator r (getD x i 0) next)
+        → eqb (letter r old-left (getD x i 0)) (letter r new-left (getD x i 0 + inflow - out)) ≡ true → Below (r .jam) x
+        → Comparing r up down x (getD x i 0) (getD x i 0 + inflow - out) out (i + 1)
+    turns = rw (add-one i) turn
+
+    pub ends : length x ≤ i → eqb (letter r old-left down) (letter r new-left down) ≡ keepsLetters r up down x
+    unfolding wordOf sameWord advance
+    ends h = sym (both-true (eqb (letter r old-left down) (letter r new-left down))) ∙ (rw (drop-of-length-le x h) at (now .letters))

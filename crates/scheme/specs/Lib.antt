@@ -1,3 +1,4 @@
+-- The definitions of the scheme: one step in general, rounded and exact, sums, words, settling, and what the code's calls promise.
 pub mod Advance
 pub mod Sums
 pub mod Rounded

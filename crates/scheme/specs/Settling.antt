@@ -17,11 +17,13 @@ sameWord [] (t ∷ ts) = false
 sameWord (s ∷ ss) [] = false
 sameWord (s ∷ ss) (t ∷ ts) = both (eqb s t) (sameWord ss ts)
 
--- still: the step keeps the letter at every face and the sum of the cells
+-- the step keeps the letter at every face
+abbrev pub keepsLetters : Road → ℕ → ℕ → List ℕ → Bool
+keepsLetters r up down xs = sameWord (wordOf r up down xs) (wordOf r up down (roundStep r up down xs))
+
+-- still: it keeps the letter at every face and the sum of the cells
 unfoldable pub still : Road → ℕ → ℕ → List ℕ → Bool
-still r up down xs =
-    both (sameWord (wordOf r up down xs) (wordOf r up down (roundStep r up down xs)))
-    (eqb (sum xs) (sum (roundStep r up down xs)))
+still r up down xs = both (keepsLetters r up down xs) (eqb (sum xs) (sum (roundStep r up down xs)))
 
 -- the cells after k steps with the one end pair
 unfoldable pub after : Road → ℕ → ℕ → ℕ → List ℕ → List ℕ

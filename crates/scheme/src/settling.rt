@@ -3,12 +3,12 @@ ghost use mathlib.Core.Path.{_≡_};
 ghost use Prim.Native.Nat.{_≤_, _<_};
 ghost use lib.Dec.{eqb};
 ghost use lib.ListN.{length, drop};
-ghost use Rattle.road.specs.Choice.{both};
 ghost use Rattle.road.specs.Judgement.{Accepted};
 ghost use Rattle.flux.specs.Face.{letter};
-ghost use Rattle.scheme.specs.Advance.{ahead};
+ghost use Rattle.scheme.specs.Advance.{ahead, entering};
 ghost use Rattle.scheme.specs.Sums.{Below};
-ghost use Rattle.scheme.specs.Settling.{still};
+ghost use Rattle.scheme.specs.Rounded.{moved};
+ghost use Rattle.scheme.specs.Settling.{keepsLetters, still};
 ghost use Rattle.scheme.specs.Calls.{Ready, SettledTo};
 use super::one_step::step;
 use flux::Pace;
@@ -18,13 +18,6 @@ use road::Road;
 pub struct Settled {
     pub settled: bool,
     pub steps: u32,
-}
-
-// Internal: both tests.
-pub fn all(a: bool, b: bool) -> bool
-    ensures { λ r. ⌜ r ≡ both a b ⌝ }
-{
-    if a { b } else { false }
 }
 
 // Internal: the density at i, or the ghost cell's past the last.
@@ -46,8 +39,37 @@ fn keeps_letter(r: Road, a: u32, b: u32, c: u32, d: u32) -> bool
     flux::letter(r, a, b) == flux::letter(r, c, d)
 }
 
-// Internal: whether the next step would be still. Works the new densities as the step does, without writing them: the
-// sum of the cells is kept exactly when as much leaves as enters.
+// Internal: whether the next step would keep the letter at every face. Works the new densities as the step does, without
+// writing them.
+fn keeps_letters(pace: Pace, x: &[u32], up: u32, down: u32, first: u32) -> bool
+    requires { ⌜ Ready pace ⌝ }
+    requires { ⌜ Below (pace .road .jam) (now x) ⌝ }
+    requires { ⌜ up ≤ pace .road .jam ⌝ }
+    requires { ⌜ down ≤ pace .road .jam ⌝ }
+    requires { ⌜ first ≡ entering (moved (pace .road)) up down (now x) ⌝ }
+    ensures { λ s. ⌜ s ≡ keepsLetters (pace .road) up down (now (x .entry)) ⌝ }
+{
+    let mut old_left = up;
+    let mut new_left = up;
+    let mut inflow = first;
+    let mut i = 0;
+    while i < x.len() {
+        let own = x[i];
+        let out = pace.flow(own, density_at(x, i + 1, down));
+        let new = own + inflow - out;
+        if !keeps_letter(pace.road, old_left, own, new_left, new) {
+            return false;
+        }
+        old_left = own;
+        new_left = new;
+        inflow = out;
+        i += 1;
+    }
+    keeps_letter(pace.road, old_left, down, new_left, down)
+}
+
+// Internal: whether the next step would be still. The sum of the cells is kept exactly when as much leaves as enters,
+// which is seldom so: only then are the letters looked at.
 fn is_still(pace: Pace, x: &[u32], up: u32, down: u32) -> bool
     requires { ⌜ Ready pace ⌝ }
     requires { ⌜ 0 < length (now x) ⌝ }
@@ -57,26 +79,12 @@ fn is_still(pace: Pace, x: &[u32], up: u32, down: u32) -> bool
     ensures { λ s. ⌜ s ≡ still (pace .road) up down (now (x .entry)) ⌝ }
 {
     let first = pace.flow(up, x[0]);
-    let mut same = true;
-    let mut old_left = up;
-    let mut new_left = up;
-    let mut inflow = first;
-    let mut i = 0;
-    while i < x.len() {
-        let own = x[i];
-        let out = pace.flow(own, density_at(x, i + 1, down));
-        let new = own + inflow - out;
-        same = all(same, keeps_letter(pace.road, old_left, own, new_left, new));
-        old_left = own;
-        new_left = new;
-        inflow = out;
-        i += 1;
+    let last = pace.flow(x[x.len() - 1], down);
+    if first == last {
+        keeps_letters(pace, x, up, down, first)
+    } else {
+        false
     }
-    let letters = all(
-        same,
-        keeps_letter(pace.road, old_left, down, new_left, down),
-    );
-    all(letters, first == inflow)
 }
 
 // Internal: the list then holds the state that the settling run hands back.

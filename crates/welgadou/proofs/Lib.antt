@@ -1,1 +1,4 @@
+-- From the answers of the calls below to what the C calls return.
 pub mod Answers
+pub mod ForecastAnswers
+pub mod ModeAnswers

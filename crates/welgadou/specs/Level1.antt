@@ -1,23 +1,14 @@
 -- What the C calls of Level 1 promise: the number returned, and every pointer's contents, from the definitions of the calls below.
 use mathlib.Core.Path.{_≡_}
-use mathlib.Core.Bool.{Bool}
 use mathlib.Core.List.{List}
 use Prim.Native.Nat.{ℕ}
-use lib.Dec.{eqb}
 use lib.ListN.{length}
-use Rattle.road.specs.Choice.{pick}
 use Rattle.road.specs.declared.Road.{Road}
 use Rattle.forecast.specs.Forecast.{forecastMeaning, forecastCells}
 use Rattle.forecast.specs.Settle.{settleMeaning, settleOutput}
+use Rattle.welgadou.specs.Parts.{written, flagOf}
 
--- what stands behind a pointer afterwards: the value where the call's number is 0, else its former contents
-abbrev pub written : ℕ → ℕ → ℕ → ℕ
-written number value former = pick (eqb number 0) value former
-
--- 1 for true, 0 for false
-abbrev pub flagOf : Bool → ℕ
-flagOf b = pick b 1 0
-
+-- welgadou_forecast: the cells, the units entered and left
 pub record Forecasted (r : Road) (cells ups downs : List ℕ) (t : ℕ) (out next : List ℕ) (entered entered-next left left-next place number : ℕ) : Type 0 where
   pub returned : number ≡ forecastMeaning r cells ups downs t (length out) .number
   pub placed : place ≡ forecastMeaning r cells ups downs t (length out) .place
@@ -25,6 +16,7 @@ pub record Forecasted (r : Road) (cells ups downs : List ℕ) (t : ℕ) (out nex
   pub entered-written : entered-next ≡ written number (forecastMeaning r cells ups downs t (length out) .entered) entered
   pub left-written : left-next ≡ written number (forecastMeaning r cells ups downs t (length out) .left) left
 
+-- welgadou_settle: the state, whether it settled, the steps made
 pub record SettledRun (r : Road) (cells : List ℕ) (up down t : ℕ) (out next : List ℕ) (settled settled-next steps steps-next place number : ℕ) : Type 0 where
   pub returned : number ≡ settleMeaning r cells up down t (length out) .number
   pub placed : place ≡ settleMeaning r cells up down t (length out) .place

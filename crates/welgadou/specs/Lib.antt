@@ -1,1 +1,4 @@
+-- What the C calls promise.
+pub mod Parts
 pub mod Level1
+pub mod Level2

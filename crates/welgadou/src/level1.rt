@@ -1,9 +1,10 @@
 // Level 1 for C: forecast and settling run.
-ghost use mathlib.Core.Path.{_≡_};
-ghost use Rattle.welgadou.specs.Level1.{Forecasted, SettledRun, flagOf};
+ghost use Rattle.welgadou.specs.Parts.{roadOf};
+ghost use Rattle.welgadou.specs.Level1.{Forecasted, SettledRun};
+use super::parts::flag;
+use super::parts::road_of;
 use forecast::ForecastAnswer;
 use forecast::SettleAnswer;
-use road::Road;
 
 // 0, with the cells after the horizon's steps in `out`, the units in `entered` and `left` and 0 in `place`; or the
 // refusal's number with its place, and nothing else written.
@@ -23,15 +24,9 @@ pub extern "C" fn welgadou_forecast(
     left: &mut u64,
     place: &mut u32,
 ) -> u32
-    ensures { λ n. ⌜ Forecasted (record { divisor = divisor; free = free; wave = wave; jam = jam; critical = critical }) (now (cells .entry)) (now (upstream .entry)) (now (downstream .entry)) horizon (now (out .entry)) (now (out .exit)) (now (entered .entry)) (now (entered .exit)) (now (left .entry)) (now (left .exit)) (now (place .exit)) n ⌝ }
+    ensures { λ n. ⌜ Forecasted (roadOf divisor free wave jam critical) (now (cells .entry)) (now (upstream .entry)) (now (downstream .entry)) horizon (now (out .entry)) (now (out .exit)) (now (entered .entry)) (now (entered .exit)) (now (left .entry)) (now (left .exit)) (now (place .exit)) n ⌝ }
 {
-    let road = Road {
-        divisor,
-        free,
-        wave,
-        jam,
-        critical,
-    };
+    let road = road_of(divisor, free, wave, jam, critical);
     match forecast::forecast(road, cells, upstream, downstream, horizon, out) {
         ForecastAnswer::Done(t) => {
             *entered = t.entered;
@@ -64,15 +59,9 @@ pub extern "C" fn welgadou_settle(
     steps: &mut u32,
     place: &mut u32,
 ) -> u32
-    ensures { λ n. ⌜ SettledRun (record { divisor = divisor; free = free; wave = wave; jam = jam; critical = critical }) (now (cells .entry)) upstream downstream horizon (now (out .entry)) (now (out .exit)) (now (settled .entry)) (now (settled .exit)) (now (steps .entry)) (now (steps .exit)) (now (place .exit)) n ⌝ }
+    ensures { λ n. ⌜ SettledRun (roadOf divisor free wave jam critical) (now (cells .entry)) upstream downstream horizon (now (out .entry)) (now (out .exit)) (now (settled .entry)) (now (settled .exit)) (now (steps .entry)) (now (steps .exit)) (now (place .exit)) n ⌝ }
 {
-    let road = Road {
-        divisor,
-        free,
-        wave,
-        jam,
-        critical,
-    };
+    let road = road_of(divisor, free, wave, jam, critical);
     match forecast::settle(road, cells, upstream, downstream, horizon, out) {
         SettleAnswer::Done(s) => {
             *settled = flag(s.settled);
@@ -85,11 +74,4 @@ pub extern "C" fn welgadou_settle(
             f.number
         }
     }
-}
-
-// Internal: 1 for true, 0 for false.
-fn flag(b: bool) -> u32
-    ensures { λ n. ⌜ n ≡ flagOf b ⌝ }
-{
-    if b { 1 } else { 0 }
 }

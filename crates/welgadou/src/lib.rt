@@ -1,3 +1,7 @@
 // The C interface: one exported function a public call. The road goes in as five numbers, lists as pointer and length;
-// the result is 0 or the refusal's number, and further results go through pointers.
+// the result is 0 or the refusal's number, and further results go through pointers, the seven counts through one pointer
+// to exactly seven.
+mod ceilings;
 mod level1;
+mod level2;
+mod parts;

@@ -1,6 +1,6 @@
 -- `forecast::forecast` meets its contract: refused, nothing is written; otherwise the copy is run.
-use mathlib.Core.Path.{_≡_, _∙_, sym, ap}
-use Rattle.road.specs.declared.refusal.Refusal.{Refusal}
+use mathlib.Core.Path.{_≡_}
+use Rattle.road.proofs.Parts.{same-number}
 use lib.ListN.{length}
 use Rattle.forecast.specs.Forecast.{forecastRefusal, Checked}
 use Rattle.forecast.proofs.Checked.{checked-of}
@@ -22,7 +22,7 @@ returns c =
 
 -- past the branch nothing is refused
 nothing : (c : tie.Else1) → let s = c .before .before .before .before .before .before .before in forecastRefusal (s .args .road) (s .args .cells .now) (s .args .upstream .now) (s .args .downstream .now) (s .args .horizon) (length (s .args .out .now)) .number ≡ 0
-nothing c = sym (ap (λ (f : Refusal). f .number) (c .before .before .judged .ensures)) ∙ c .if1 .left
+nothing c = same-number (c .before .before .judged .ensures) (c .if1 .left)
 
 checked : (c : tie.Else1) → let s = c .before .before .before .before .before .before .before in Checked (s .args .road) (s .args .cells .now) (s .args .upstream .now) (s .args .downstream .now) (s .args .horizon) (length (s .args .out .now))
 checked c =

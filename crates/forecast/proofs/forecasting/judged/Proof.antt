@@ -1,11 +1,11 @@
 -- `forecast::judged` meets its contract: a refusal of the shape stands, and below it the values are judged row by row.
-use mathlib.Core.Path.{_∙_, sym, ap}
+use mathlib.Core.Path.{_∙_, ap}
 use Prim.Native.Nat.{ℕ, _+_, _≤_}
 use native.Mathlib.Omega.{arith}
 use lib.Dec.{ltb}
 use lib.ListN.{length}
 use Rattle.road.specs.Ceilings.{cellsCeiling, horizonCeiling}
-use Rattle.road.specs.declared.refusal.Refusal.{Refusal}
+use Rattle.road.proofs.Parts.{same-number}
 use Rattle.road.proofs.Table.{next-row}
 use Rattle.checks.proofs.First.{first-bound}
 use Rattle.forecast.specs.Forecast.{shapeRefusal, forecastRefusal}
@@ -39,7 +39,7 @@ short c =
     let j = c .before .before .before in
     let s = j .before .before .before .before in
     shape-short (s .args .road) (s .args .cells .now) (s .args .upstream .now) (s .args .downstream .now) (s .args .horizon) (s .args .out)
-    (sym (ap (λ (f : Refusal). f .number) (j .judged-shape .ensures)) ∙ c .before .if1 .left)
+    (same-number (j .judged-shape .ensures) (c .before .if1 .left))
 
 add-or-if : tie.Need-add-or-if
 add-or-if c =

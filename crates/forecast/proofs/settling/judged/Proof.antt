@@ -1,14 +1,8 @@
--- `forecast::judged` of the settling run meets its contract: a refusal of the shape stands, and below it the values are judged row by row.
-use mathlib.Core.Path.{_∙_, refl, sym, ap}
-use Prim.Native.Nat.{ℕ, _+_, _≤_}
-use native.Mathlib.Omega.{arith}
-use lib.Dec.{ltb}
+-- `forecast::judged` of the settling run meets its contract: a refusal of the shape stands, and below it the cells and the pair are judged.
 use lib.ListN.{length}
-use Rattle.road.specs.Ceilings.{cellsCeiling}
-use Rattle.road.specs.declared.refusal.Refusal.{Refusal}
-use Rattle.road.proofs.Table.{next-row}
-use Rattle.checks.proofs.First.{first-bound}
-use Rattle.forecast.specs.Settle.{settleShapeRefusal, settleRefusal}
+use Rattle.road.proofs.Parts.{same-number, part-goes-on}
+use Rattle.checks.specs.Values.{pairRows}
+use Rattle.forecast.specs.Settle.{settleShapeRows, settleShapeRefusal, settleRefusal}
 use Rattle.forecast.proofs.Checked.{settle-shape-stands, settle-shape-short}
 use borrow.Author.Needs.{needs}
 use Rattle.forecast.proofs.settling.judged.Statement.{statement}
@@ -24,71 +18,22 @@ returns c =
     settle-shape-stands (s .args .road) (s .args .cells .now) (s .args .up) (s .args .down) (s .args .horizon) (s .args .out)
     (j .judged-shape .result) (j .judged-shape .ensures) (c .if1 .taken)
 
-first-above-requires : tie.Need-first-above-requires
-first-above-requires c κs = search needs
-
-is-above-requires : tie.Need-is-above-requires
-is-above-requires c κs = search needs
-
-is-above-requires-2 : tie.Need-is-above-requires-2
-is-above-requires-2 c κs = search needs
-
--- past the first branch the shape is right, so that the list is short and a place fits
-short : (c : tie.After-first-above) → c .first-above .result ≤ cellsCeiling
-short c =
-    let j = c .before .before .before in
+-- past the branch the shape is right, so that the cells are few
+or-pair-requires : tie.Need-or-pair-requires
+or-pair-requires c κs =
+    let j = c .before .before in
     let s = j .before .before in
-    let few = settle-shape-short (s .args .road) (s .args .cells .now) (s .args .up) (s .args .down) (s .args .horizon) (s .args .out)
-    (sym (ap (λ (f : Refusal). f .number) (j .judged-shape .ensures)) ∙ c .before .if1 .left)
-    in
-    omega (arith, first-bound (s .args .road .jam) (s .args .cells .now), c .first-above .ensures)
-
-add-or-if : tie.Need-add-or-if
-add-or-if c = let few = short (c .before .before) in omega arith
-
-cast-or-if : tie.Need-cast-or-if
-cast-or-if c = let few = short (c .before .before) in omega arith
-
-or-if-requires : tie.Need-or-if-requires
-or-if-requires c κs = search needs
-
-or-if-requires-2 : tie.Need-or-if-requires-2
-or-if-requires-2 c κs = search needs
-
-or-if-requires-3 : tie.Need-or-if-requires-3
-or-if-requires-3 c κs = search needs
+    settle-shape-short (s .args .road) (s .args .cells .now) (s .args .up) (s .args .down) (s .args .horizon) (s .args .out)
+    (same-number (j .judged-shape .ensures) (c .if1 .left))
 
 returns-2 : tie.Need-returns-2
 unfolding settleShapeRefusal settleRefusal
 returns-2 c =
-    let down = c .before .before .before in
-    let up = down .before in
-    let cell = up .before in
-    let j = cell .before .before .before in
+    let j = c .before .before .before in
     let s = j .before .before in
-    c .or-if3 .ensures
-    ∙ next-row 11
-    (c .before .or-if2 .ensures
-    ∙ next-row 10
-    (c .before .before .or-if .ensures
-    ∙ next-row 9 (j .judged-shape .ensures)
-    (ap (λ (k : ℕ). ltb k (length (s .args .cells .now))) (cell .first-above .ensures))
-    (ap (λ (k : ℕ). k + 1) (cell .first-above .ensures)))
-    (up .is-above .ensures) refl)
-    (down .is-above2 .ensures) refl
+    part-goes-on (settleShapeRows (s .args .road) (length (s .args .cells .now)) (s .args .horizon) (s .args .out))
+    (pairRows (s .args .road) (s .args .cells .now) (s .args .up) (s .args .down)) (j .judged-shape .ensures) (c .or-pair .ensures)
 
 pub judged-spec : {M : Type 1} → statement M
 judged-spec =
-    tie.close
-    (tie.spec
-    judged-shape-requires
-    returns
-    first-above-requires
-    is-above-requires
-    is-above-requires-2
-    add-or-if
-    cast-or-if
-    or-if-requires
-    or-if-requires-2
-    or-if-requires-3
-    returns-2)
+    tie.close (tie.spec judged-shape-requires returns or-pair-requires returns-2)

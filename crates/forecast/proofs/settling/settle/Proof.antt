@@ -1,7 +1,7 @@
 -- `forecast::settle` meets its contract: refused, nothing is written; otherwise the copy is settled.
-use mathlib.Core.Path.{_≡_, _∙_, sym, ap}
+use mathlib.Core.Path.{_≡_}
 use lib.ListN.{length}
-use Rattle.road.specs.declared.refusal.Refusal.{Refusal}
+use Rattle.road.proofs.Parts.{same-number}
 use Rattle.forecast.specs.Settle.{settleRefusal, SettleChecked}
 use Rattle.forecast.proofs.Checked.{settle-checked-of}
 use Rattle.forecast.proofs.Answers.{settle-refused}
@@ -22,7 +22,7 @@ returns c =
 
 -- past the branch nothing is refused
 nothing : (c : tie.Else1) → let s = c .before .before .before .before .before in settleRefusal (s .args .road) (s .args .cells .now) (s .args .up) (s .args .down) (s .args .horizon) (length (s .args .out .now)) .number ≡ 0
-nothing c = sym (ap (λ (f : Refusal). f .number) (c .before .before .judged .ensures)) ∙ c .if1 .left
+nothing c = same-number (c .before .before .judged .ensures) (c .if1 .left)
 
 checked : (c : tie.Else1) → let s = c .before .before .before .before .before in SettleChecked (s .args .road) (s .args .cells .now) (s .args .up) (s .args .down) (s .args .horizon) (length (s .args .out .now))
 checked c =

@@ -1,8 +1,8 @@
 -- `modes::candidate` meets its contract: refused, or the mode's row applied.
 use mathlib.Core.Path.{_≡_, _∙_, ap}
+use Rattle.road.proofs.Parts.{same-number}
 use Rattle.modes.specs.declared.candidates.CandidateRow.{CandidateRow}
 use Rattle.modes.specs.Candidate.{applied, candidateRefusal}
-use Rattle.modes.proofs.Parts.{same-number}
 use Rattle.modes.proofs.CandidateAnswers.{candidate-checked-of, candidate-refused, candidate-done}
 use borrow.Author.Needs.{needs}
 use Rattle.modes.proofs.candidates.candidate.Statement.{statement}

@@ -1,7 +1,7 @@
 -- `modes::count` meets its contract: refused above the ceiling, otherwise counted.
 use mathlib.Core.Path.{_≡_}
+use Rattle.road.proofs.Parts.{same-number}
 use Rattle.modes.specs.Count.{countRefusal}
-use Rattle.modes.proofs.Parts.{same-number}
 use Rattle.modes.proofs.CountAnswers.{count-within, refused, done}
 use borrow.Author.Needs.{needs}
 use Rattle.modes.proofs.counting.count.Statement.{statement}

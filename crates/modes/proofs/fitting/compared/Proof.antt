@@ -19,7 +19,7 @@ returns c =
     let k = c .before in
     let s = k .before .before .before in
     all-fit (s .args .road) (s .args .cells .now) (s .args .up) (s .args .down) (s .args .word .now)
-    (k .first-misfit .result) (k .first-misfit .ensures) (c .if1 .taken)
+    (k .first-misfit .result) (k .first-misfit .ensures) (s .pre .word-long) (c .if1 .taken)
 
 cast-t10 : tie.Need-cast-t10
 cast-t10 c =

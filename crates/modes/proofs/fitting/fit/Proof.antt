@@ -1,7 +1,7 @@
 -- `modes::fit` meets its contract: refused by the table, otherwise compared.
 use mathlib.Core.Path.{_≡_}
+use Rattle.road.proofs.Parts.{same-number}
 use Rattle.modes.specs.Judging.{fitRefusal}
-use Rattle.modes.proofs.Parts.{same-number}
 use Rattle.modes.proofs.FitAnswers.{checked-of, refused, done}
 use borrow.Author.Needs.{needs}
 use Rattle.modes.proofs.fitting.fit.Statement.{statement}

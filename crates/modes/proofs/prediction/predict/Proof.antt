@@ -1,8 +1,8 @@
 -- `modes::predict` meets its contract: refused, nothing is written; otherwise the rows are.
 use mathlib.Core.Path.{_≡_}
 use lib.ListN.{length}
+use Rattle.road.proofs.Parts.{same-number}
 use Rattle.modes.specs.Judging.{predictRefusal}
-use Rattle.modes.proofs.Parts.{same-number}
 use Rattle.modes.proofs.PredictAnswers.{checked-of, refused, done}
 use borrow.Author.Needs.{needs}
 use Rattle.modes.proofs.prediction.predict.Statement.{statement}

@@ -1,7 +1,7 @@
 -- `modes::read` meets its contract: refused, nothing is written; otherwise the letters, then the modes of the letters, then the counts of the modes.
-use mathlib.Core.Path.{_≡_, _∙_, sym, ap}
+use mathlib.Core.Path.{_≡_}
 use lib.ListN.{length}
-use Rattle.road.specs.declared.refusal.Refusal.{Refusal}
+use Rattle.road.proofs.Parts.{same-number}
 use Rattle.modes.specs.Judging.{readRefusal}
 use Rattle.modes.proofs.ReadAnswers.{refused, checked, word-long, tally-asks, done}
 use borrow.Author.Needs.{needs}
@@ -21,7 +21,7 @@ returns c =
 -- past the branch nothing is refused
 nothing : (c : tie.Else1) → let s = c .before .before .before .before .before .before in
     readRefusal (s .args .road) (s .args .cells .now) (s .args .up) (s .args .down) (length (s .args .letters .now)) (length (s .args .modes .now)) .number ≡ 0
-nothing c = sym (ap (λ (f : Refusal). f .number) (c .before .before .judged .ensures)) ∙ c .if1 .left
+nothing c = same-number (c .before .before .judged .ensures) (c .if1 .left)
 
 write-letters-requires : tie.Need-write-letters-requires
 write-letters-requires c κs =

@@ -1,13 +1,17 @@
 -- `modes::queued_one` meets its contract, branch by branch.
-use borrow.Author.Tests.{le-leb, lt-leb}
+use mathlib.Core.Path.{_∙_, sym}
+use borrow.Author.Needs.{needs}
 use Rattle.modes.proofs.tallying.queued_one.Statement.{statement}
 use Rattle.modes.proofs.tallying.queued_one.Tie as tie
 
+is-queued-requires : tie.Need-is-queued-requires
+is-queued-requires c κs = search needs
+
 returns : tie.Need-returns
-returns c = simp (le-leb _ 3 (c .if1 .taken))
+returns c = rw (sym (c .before .is-queued .ensures) ∙ c .if1 .taken)
 
 returns-2 : tie.Need-returns-2
-returns-2 c = simp (lt-leb _ 3 (c .if1 .left))
+returns-2 c = rw (sym (c .before .is-queued .ensures) ∙ c .if1 .left)
 
 pub queued-one-spec : {M : Type 1} → statement M
-queued-one-spec = tie.close (tie.spec returns returns-2)
+queued-one-spec = tie.close (tie.spec is-queued-requires returns returns-2)

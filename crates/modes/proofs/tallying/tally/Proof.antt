@@ -2,9 +2,9 @@
 use Prim.Native.Nat.{_-_, _≤_}
 use native.Mathlib.Omega.{arith}
 use borrow.Author.Needs.{needs}
-use lib.Dec.{leb}
 use lib.ListN.{length, getD}
-use Rattle.modes.proofs.CountLoop.{Tallying, begins, turns, ends, one-at-most}
+use Rattle.modes.specs.Reading.{isQueued}
+use Rattle.modes.proofs.TallyLoop.{Tallying, begins, turns, ends, one-at-most}
 use Rattle.modes.proofs.tallying.tally.Statement.{statement}
 use Rattle.modes.proofs.tallying.tally.Tie as tie
 
@@ -57,7 +57,7 @@ add-queued c =
     let l = c .before .before .before in
     let s = l .before .before in
     let mode = getD (s .args .modes .now) (l .loop .i) 0 in
-    omega (arith, l .loop .inv .few, l .loop .inv .inside, s .pre .0, c .queued-one .ensures, one-at-most (leb mode 3))
+    omega (arith, l .loop .inv .few, l .loop .inv .inside, s .pre .0, c .queued-one .ensures, one-at-most (isQueued mode))
 
 add-i : tie.Need-add-i Inv-loop μ-loop
 add-i c = search needs

@@ -1,5 +1,5 @@
 -- `modes::offends` meets its contract: the code is unknown, or the pair is illegal.
-use mathlib.Core.Path.{_∙_, ap}
+use mathlib.Core.Path.{ap}
 use lib.Dec.{ltb}
 use Rattle.road.specs.Choice.{or}
 use Rattle.flux.specs.Face.{letterD}
@@ -11,12 +11,9 @@ use Rattle.modes.proofs.words.offends.Tie as tie
 is-illegal-requires : tie.Need-is-illegal-requires
 is-illegal-requires c κs = search needs
 
-either-requires : tie.Need-either-requires
-either-requires c κs = search needs
-
 returns : tie.Need-returns
 unfolding offends
-returns c = c .either .ensures ∙ ap (or (ltb letterD (c .before .before .args .s))) (c .before .is-illegal .ensures)
+returns c = ap (or (ltb letterD (c .before .args .s))) (c .is-illegal .ensures)
 
 pub offends-spec : {M : Type 1} → statement M
-offends-spec = tie.close (tie.spec is-illegal-requires either-requires returns)
+offends-spec = tie.close (tie.spec is-illegal-requires returns)

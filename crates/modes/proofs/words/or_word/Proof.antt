@@ -1,23 +1,63 @@
--- `modes::or_word` meets its contract: one row below those above.
+-- `modes::or_word` meets its contract: by the length, which bounds the face that offends.
 use mathlib.Core.Path.{_∙_, refl}
+use native.Mathlib.Omega.{arith}
 use Rattle.road.proofs.Table.{next-row}
+use Rattle.flux.specs.Face.{letterD}
+use Rattle.modes.proofs.Legal.{first-bound}
+use Rattle.modes.proofs.WordRow.{bad-legal, place-legal, bad-length, place-length}
 use borrow.Author.Needs.{needs}
 use Rattle.modes.proofs.words.or_word.Statement.{statement}
 use Rattle.modes.proofs.words.or_word.Tie as tie
 
-bad-word-requires : tie.Need-bad-word-requires
-bad-word-requires c κs = search needs
+add-if1 : tie.Need-add-if1
+add-if1 c = search needs
 
-word-place-requires : tie.Need-word-place-requires
-word-place-requires c κs = search needs
+first-offence-requires : tie.Need-first-offence-requires
+first-offence-requires c κs = search needs
+
+cast-or-if : tie.Need-cast-or-if
+cast-or-if c =
+    let s = c .before .before .before in
+    omega (arith, first-bound letterD (s .args .word .now), c .first-offence .ensures, c .before .if1 .taken, s .pre)
 
 or-if-requires : tie.Need-or-if-requires
 or-if-requires c κs = search needs
 
+add-or-if : tie.Need-add-or-if
+add-or-if c = search needs
+
+cast-or-if-2 : tie.Need-cast-or-if-2
+cast-or-if-2 c = search needs
+
+or-if-requires-2 : tie.Need-or-if-requires-2
+or-if-requires-2 c κs = search needs
+
 returns : tie.Need-returns
 returns c =
-    let place = c .before in
-    c .or-if .ensures ∙ next-row 12 refl (place .before .bad-word .ensures) (place .word-place .ensures)
+    let face = c .before in
+    let s = face .before .before .before in
+    let long = face .before .if1 .taken in
+    c .or-if .ensures
+    ∙ next-row 12 refl
+    (bad-legal (s .args .n) (s .args .word .now) long (face .first-offence .result) (face .first-offence .ensures))
+    (place-legal (s .args .n) (s .args .word .now) long (face .first-offence .result) (face .first-offence .ensures))
+
+returns-2 : tie.Need-returns-2
+returns-2 c =
+    let s = c .before .before .before in
+    let other = c .before .if1 .left in
+    c .or-if2 .ensures ∙ next-row 12 refl (bad-length (s .args .n) (s .args .word .now) other) (place-length (s .args .n) (s .args .word .now) other)
 
 pub or-word-spec : {M : Type 1} → statement M
-or-word-spec = tie.close (tie.spec bad-word-requires word-place-requires or-if-requires returns)
+or-word-spec =
+    tie.close
+    (tie.spec
+    add-if1
+    first-offence-requires
+    cast-or-if
+    or-if-requires
+    add-or-if
+    cast-or-if-2
+    or-if-requires-2
+    returns
+    returns-2)

@@ -1,71 +1,57 @@
 -- `modes::CandidateRow::of` meets its contract: four whole numbers, each as a float.
-use mathlib.Core.Path.{_∙_, refl, ap}
+use mathlib.Core.Path.{_∙_, ap}
 use native.Mathlib.Nat.{le-trans}
-use native.Mathlib.Omega.{arith}
-use lib.Dec.{lit<, lit≤}
+use lib.Dec.{lit≤}
 use lib.Ieee.{binary64, ofInt}
-use Rattle.modes.specs.Candidate.{leftCoefficient, rightCoefficient, rowFor}
+use Rattle.modes.specs.Coefficients.{wholeRow}
+use Rattle.modes.specs.declared.numerators.WholeRow.{WholeRow}
+use Rattle.modes.specs.Candidate.{rowFor}
 use Rattle.modes.proofs.Sizes.{kept}
-use Rattle.modes.proofs.Coefficients.{part-kept, own-small, constant-small}
+use Rattle.modes.proofs.Coefficients.{sized}
 use borrow.Author.Needs.{needs}
 use Rattle.modes.proofs.candidates.CandidateRow.of.Statement.{statement}
 use Rattle.modes.proofs.candidates.CandidateRow.of.Tie as tie
 
-weighted-speed-requires : tie.Need-weighted-speed-requires
-weighted-speed-requires c κs = search needs
+of-requires : tie.Need-of-requires
+of-requires c κs = search needs
 
 float-of-requires : tie.Need-float-of-requires
 float-of-requires c κs = search needs
 
-own-coefficient-requires : tie.Need-own-coefficient-requires
-own-coefficient-requires c κs = search needs
-
 float-of-requires-2 : tie.Need-float-of-requires-2
 float-of-requires-2 c κs = search needs
 
-weighted-speed-requires-2 : tie.Need-weighted-speed-requires-2
-weighted-speed-requires-2 c κs = search needs
-
 float-of-requires-3 : tie.Need-float-of-requires-3
 float-of-requires-3 c κs = search needs
-
-constant-of-requires : tie.Need-constant-of-requires
-constant-of-requires c κs = search needs
 
 float-of-requires-4 : tie.Need-float-of-requires-4
 float-of-requires-4 c κs = search needs
 
 returns : tie.Need-returns
-unfolding rowFor leftCoefficient rightCoefficient
+unfolding rowFor wholeRow
 returns c =
-    let k = c .before in
-    let right = k .before in
-    let q = right .before in
-    let own = q .before in
-    let d = own .before in
-    let left = d .before in
-    let p = left .before in
-    let s = p .before in
-    let m = s .args .mode in
-    let r = s .args .road in
+    let right = c .before .before in
+    let own = right .before .before in
+    let left = own .before .before in
+    let whole = left .before .before in
+    let s = whole .before in
     let (ok, (low, high)) = s .pre in
+    let same = whole .of .ensures in
+    let small = sized (s .args .mode) low high (s .args .road) ok in
     λ i. record {
-      left = (left .float-of .ensures ∙ ap (ofInt binary64) (part-kept m low high 0 (r .free) (lit< tt) (omega arith) refl (p .weighted-speed .ensures))) i;
-      own = (own .float-of2 .ensures ∙ ap (ofInt binary64) (kept (d .own-coefficient .ensures) (le-trans (own-small m low high r ok) (lit≤ tt)))) i;
-      right = (right .float-of3 .ensures ∙ ap (ofInt binary64) (part-kept m low high 3 (r .wave) (lit< tt) (omega arith) refl (q .weighted-speed2 .ensures))) i;
-      constant = (c .float-of4 .ensures ∙ ap (ofInt binary64) (kept (k .constant-of .ensures) (le-trans (constant-small m low high r ok) (lit≤ tt)))) i;
+      left = (left .float-of .ensures ∙ ap (ofInt binary64) (kept (ap (λ (row : WholeRow). row .left) same) (le-trans (small .left-small) (lit≤ tt)))) i;
+      own = (own .float-of2 .ensures ∙ ap (ofInt binary64) (kept (ap (λ (row : WholeRow). row .own) same) (le-trans (small .own-small) (lit≤ tt)))) i;
+      right = (right .float-of3 .ensures ∙ ap (ofInt binary64) (kept (ap (λ (row : WholeRow). row .right) same) (le-trans (small .right-small) (lit≤ tt)))) i;
+      constant = (c .float-of4 .ensures ∙ ap (ofInt binary64) (kept (ap (λ (row : WholeRow). row .constant) same) (le-trans (small .constant-small) (lit≤ tt)))) i;
     }
 
 pub of-spec : {M : Type 1} → statement M
 of-spec =
     tie.close
     (tie.spec
-    weighted-speed-requires
+    of-requires
     float-of-requires
-    own-coefficient-requires
     float-of-requires-2
-    weighted-speed-requires-2
     float-of-requires-3
-    constant-of-requires
     float-of-requires-4
     returns)

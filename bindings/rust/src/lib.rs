@@ -1,0 +1,40 @@
+//! A traffic forecast for one uniform road, proved: safe functions over the archive `libwelgadou.a`.
+//!
+//! Welgadou works the triangular Godunov scheme (the cell transmission model) on whole numbers. Each call judges its
+//! input by itself and answers with a [`Refusal`], a number and a place, where it does not accept it; the slices that it
+//! would have written then keep their contents. No input panics. What is proved of the calls, and what the words unit,
+//! cell, face, letter, word and mode mean, stands in `include/welgadou.h`; this crate adds types and nothing else.
+//!
+//! Build the archive with `rt staticlib welgadou`. A program outside of the repository sets `WELGADOU_LIB_DIR` to the
+//! folder in which it keeps `libwelgadou.a`.
+//!
+//! ```
+//! use welgadou::{forecast, Road};
+//!
+//! let road = Road { divisor: 5, free: 4, wave: 1, jam: 1000, critical: 200 };
+//! let mut out = [0; 3];
+//! let totals = forecast(&road, &[300, 150, 700], &[100], &[0], 1, &mut out)?;
+//! assert_eq!(out, [220, 250, 600]);
+//! assert_eq!((totals.entered, totals.left), (80, 160));
+//! # Ok::<(), welgadou::Refusal>(())
+//! ```
+#![deny(unsafe_code)]
+#![forbid(missing_docs, unsafe_op_in_unsafe_fn, non_ascii_idents, unused_must_use, improper_ctypes)]
+
+#[allow(unsafe_code)]
+mod ffi;
+pub mod letter;
+mod level1;
+mod level2;
+mod refusal;
+mod road;
+
+pub use level1::{forecast, settle, Settlement, Totals};
+pub use level2::{candidate, count, fit, read, rows, Counts, Fit};
+pub use refusal::Refusal;
+pub use road::Road;
+
+/// The README's example, run with the documentation's.
+#[cfg(doctest)]
+#[doc = include_str!("../../../README.md")]
+struct Readme;

@@ -1,0 +1,589 @@
+//! The library against an independent reading of the scope document, call by call, on many inputs: results, refusal
+//! numbers and places, and buffers that keep their contents after a refusal. Each call is made twice, as C makes it and
+//! by this crate's safe function.
+//!
+//! A failure prints its seed. `WELGADOU_SEED=n cargo test --release` then makes that one case of each call again;
+//! `WELGADOU_CASES=n` makes n times as many cases.
+
+mod exact;
+mod random;
+mod raw;
+mod reference;
+
+use exact::Whole;
+use random::Random;
+use reference::Refused;
+use std::collections::BTreeMap;
+use std::env;
+use std::thread;
+use welgadou::{Fit, Refusal, Road};
+
+fn road_of([divisor, free, wave, jam, critical]: [u32; 5]) -> Road {
+    Road { divisor, free, wave, jam, critical }
+}
+
+fn pair_of(refusal: Refusal) -> Refused {
+    (refusal.number, refusal.place)
+}
+
+/// Prints the seed of a case that panics.
+struct Case(&'static str, u64);
+
+impl Drop for Case {
+    fn drop(&mut self) {
+        if thread::panicking() {
+            eprintln!("the case of {} with WELGADOU_SEED={} fails", self.0, self.1);
+        }
+    }
+}
+
+/// What a case was: the number of its answer, 0 for accepted, and a word on an accepted one.
+type Kind = (u32, &'static str);
+
+/// A generator for a case of a call: the calls do not share their inputs.
+fn generator(call: &str, seed: u64) -> Random {
+    Random::new(call.bytes().fold(seed, |mixed, byte| Random::new(mixed ^ u64::from(byte)).bits()))
+}
+
+/// Runs a case for many seeds. Every number that the call can answer must have come up, and every word, so that nothing
+/// goes untried.
+fn cases(call: &'static str, times: u64, numbers: &[u32], words: &[&'static str], case: impl Fn(&mut Random) -> Kind) {
+    let number_of = |name| env::var(name).ok().map(|text| text.parse::<u64>().expect("a whole number"));
+    if let Some(seed) = number_of("WELGADOU_SEED") {
+        let _case = Case(call, seed);
+        case(&mut generator(call, seed));
+        return;
+    }
+    let times = times * number_of("WELGADOU_CASES").unwrap_or(1);
+    let mut seen: BTreeMap<Kind, u64> = BTreeMap::new();
+    for seed in 0..times {
+        let _case = Case(call, seed);
+        *seen.entry(case(&mut generator(call, seed))).or_default() += 1;
+    }
+    let tally: Vec<String> = seen.iter().map(|((number, word), times)| format!("{number}{word} {times}")).collect();
+    println!("{call}: {times} cases; by number: {}", tally.join(", "));
+    let refused = numbers.iter().map(|&number| (number, ""));
+    let expected: Vec<Kind> = words.iter().map(|&word| (0, word)).chain(refused).collect();
+    assert!(seen.keys().all(|kind| expected.contains(kind)), "{call}: an unexpected kind");
+    assert!(expected.iter().all(|kind| seen.contains_key(kind)), "{call}: a kind that never came up");
+}
+
+/// The kind of an answer, with the word that an accepted one gets.
+fn kind_of<V>(answer: &Result<V, Refused>, word: impl FnOnce(&V) -> &'static str) -> Kind {
+    match answer {
+        Ok(values) => (0, word(values)),
+        Err(refused) => (refused.0, ""),
+    }
+}
+
+/// How many faults to put into an input: mostly none, sometimes several, so that the lowest number must be found.
+fn faults(g: &mut Random) -> usize {
+    g.of(&[0, 0, 0, 0, 0, 1, 1, 1, 2, 3])
+}
+
+// Level 1.
+
+fn one_forecast(g: &mut Random, work: usize) -> Kind {
+    let mut road = random::good_road(g);
+    let n = random::size(g);
+    let longest = (work / n).clamp(1, 4096);
+    let mut horizon = match g.below(6) {
+        0 => g.from(0, 2),
+        1 => longest as u32,
+        _ => g.below(longest + 1) as u32,
+    };
+    let mut cells = random::densities(g, &road, n);
+    let mut up = random::densities(g, &road, horizon as usize);
+    let mut down = random::densities(g, &road, horizon as usize);
+    let mut out = n;
+    let good = road;
+    for _ in 0..faults(g) {
+        match g.below(9) {
+            0 => random::damage_road(g, &mut road),
+            1 => {
+                let length = g.of(&[0, 0, 257, 258, 300, 1000, 70_000]);
+                random::resize(g, &mut cells, length);
+                if g.one_in(2) {
+                    out = length;
+                }
+            }
+            2 => {
+                horizon = g.of(&[4097, 4098, 5000, 1 << 31, u32::MAX]);
+                if horizon <= 5000 && g.one_in(2) {
+                    random::resize(g, &mut up, horizon as usize);
+                    random::resize(g, &mut down, horizon as usize);
+                }
+            }
+            3 => {
+                let length = random::other_length(g, up.len());
+                random::resize(g, &mut up, length);
+            }
+            4 => {
+                let length = random::other_length(g, down.len());
+                random::resize(g, &mut down, length);
+            }
+            5 => out = random::other_length(g, out),
+            6 => random::damage_values(g, &good, &mut cells),
+            7 => random::damage_values(g, &good, &mut up),
+            _ => random::damage_values(g, &good, &mut down),
+        }
+    }
+    let expected = reference::forecast(road, &cells, &up, &down, horizon, out);
+    let input = || format!("road {road:?}, cells {cells:?}, up {up:?}, down {down:?}, horizon {horizon}, out {out}");
+
+    let by_c = raw::forecast(road, &cells, &up, &down, horizon, out)
+        .map(|(cells, entered, left)| reference::Forecast { cells, entered, left });
+    assert_eq!(by_c, expected, "{}", input());
+
+    let mut buffer = vec![0x5a5a_5a5a; out];
+    let by_rust = welgadou::forecast(&road_of(road), &cells, &up, &down, horizon, &mut buffer);
+    match &expected {
+        Ok(done) => {
+            assert_eq!(by_rust, Ok(welgadou::Totals { entered: done.entered, left: done.left }), "{}", input());
+            assert_eq!(buffer, done.cells, "{}", input());
+        }
+        Err(refused) => {
+            assert_eq!(by_rust.map_err(pair_of), Err(*refused), "{}", input());
+            assert!(buffer.iter().all(|&x| x == 0x5a5a_5a5a), "{}", input());
+        }
+    }
+    kind_of(&expected, |done| if done.cells == cells { " as before" } else { " changed" })
+}
+
+const FORECAST: [u32; 11] = [1, 2, 3, 4, 5, 6, 7, 8, 9, 10, 11];
+const FORECAST_WORDS: [&str; 2] = [" as before", " changed"];
+
+#[test]
+fn forecasts() {
+    cases("forecast", 40_000, &FORECAST, &FORECAST_WORDS, |g| one_forecast(g, 1_000));
+}
+
+#[test]
+fn long_forecasts() {
+    cases("forecast, long", 400, &FORECAST, &FORECAST_WORDS, |g| one_forecast(g, 256 * 4096));
+}
+
+fn one_settle(g: &mut Random, work: usize) -> Kind {
+    let mut road = random::good_road(g);
+    let n = random::size(g);
+    let longest = (work / n).clamp(1, 4096);
+    let mut horizon = match g.below(6) {
+        0 => g.from(0, 2),
+        1 => longest as u32,
+        _ => g.below(longest + 1) as u32,
+    };
+    let mut cells = random::densities(g, &road, n);
+    let (mut up, mut down) = (random::density(g, &road), random::density(g, &road));
+    let mut out = n;
+    let good = road;
+    for _ in 0..faults(g) {
+        match g.below(7) {
+            0 => random::damage_road(g, &mut road),
+            1 => {
+                let length = g.of(&[0, 0, 257, 258, 300, 1000, 70_000]);
+                random::resize(g, &mut cells, length);
+                if g.one_in(2) {
+                    out = length;
+                }
+            }
+            2 => horizon = g.of(&[4097, 4098, 5000, 1 << 31, u32::MAX]),
+            3 => out = random::other_length(g, out),
+            4 => random::damage_values(g, &good, &mut cells),
+            5 => up = random::above(g, &good),
+            _ => down = random::above(g, &good),
+        }
+    }
+    let expected = reference::settle(road, &cells, up, down, horizon, out);
+    let input = || format!("road {road:?}, cells {cells:?}, up {up}, down {down}, horizon {horizon}, out {out}");
+
+    let by_c = raw::settle(road, &cells, up, down, horizon, out).map(|(cells, settled, steps)| {
+        assert!(settled <= 1, "{}", input());
+        reference::Settled { cells, settled: settled == 1, steps }
+    });
+    assert_eq!(by_c, expected, "{}", input());
+
+    let mut buffer = vec![0x5a5a_5a5a; out];
+    let by_rust = welgadou::settle(&road_of(road), &cells, up, down, horizon, &mut buffer);
+    match &expected {
+        Ok(done) => {
+            let report = welgadou::Settlement { settled: done.settled, steps: done.steps };
+            assert_eq!(by_rust, Ok(report), "{}", input());
+            assert_eq!(buffer, done.cells, "{}", input());
+        }
+        Err(refused) => {
+            assert_eq!(by_rust.map_err(pair_of), Err(*refused), "{}", input());
+            assert!(buffer.iter().all(|&x| x == 0x5a5a_5a5a), "{}", input());
+        }
+    }
+    kind_of(&expected, |done| match (done.settled, done.steps) {
+        (true, 0) => " settled at once",
+        (true, _) => " settled",
+        (false, _) => " unsettled",
+    })
+}
+
+const SETTLE: [u32; 10] = [1, 2, 3, 4, 5, 6, 8, 9, 10, 11];
+const SETTLE_WORDS: [&str; 3] = [" settled at once", " settled", " unsettled"];
+
+#[test]
+fn settling_runs() {
+    cases("settle", 40_000, &SETTLE, &SETTLE_WORDS, |g| one_settle(g, 2_000));
+}
+
+#[test]
+fn long_settling_runs() {
+    cases("settle, long", 300, &SETTLE, &SETTLE_WORDS, |g| one_settle(g, 256 * 4096));
+}
+
+// Level 2.
+
+/// A state for the calls of Level 2, with its faults: road, cells and ends.
+fn state(g: &mut Random) -> ([u32; 5], Vec<u32>, u32, u32) {
+    let mut road = random::good_road(g);
+    let n = random::size(g);
+    let mut cells = random::densities(g, &road, n);
+    let (mut up, mut down) = (random::density(g, &road), random::density(g, &road));
+    let good = road;
+    for _ in 0..faults(g) {
+        match g.below(6) {
+            0 => random::damage_road(g, &mut road),
+            1 => {
+                let length = g.of(&[0, 0, 257, 258, 300, 1000, 70_000]);
+                random::resize(g, &mut cells, length);
+            }
+            2 | 3 => random::damage_values(g, &good, &mut cells),
+            4 => up = random::above(g, &good),
+            _ => down = random::above(g, &good),
+        }
+    }
+    (road, cells, up, down)
+}
+
+#[test]
+fn readings() {
+    cases("read", 100_000, &[1, 2, 3, 4, 5, 8, 9, 10, 11], &[" free", " queued"], |g| {
+        let (road, cells, up, down) = state(g);
+        let (mut letters, mut modes) = (cells.len() + 1, cells.len());
+        if g.one_in(8) {
+            letters = random::other_length(g, letters);
+        }
+        if g.one_in(8) {
+            modes = random::other_length(g, modes);
+        }
+        let expected = reference::read(road, &cells, up, down, letters, modes);
+        let input = || format!("road {road:?}, cells {cells:?}, up {up}, down {down}, outputs {letters}, {modes}");
+
+        let by_c = raw::read(road, &cells, up, down, letters, modes).map(|(letters, modes, counts, queued)| {
+            let counts = counts.try_into().expect("seven counts");
+            reference::Reading { letters, modes, counts, queued }
+        });
+        assert_eq!(by_c, expected, "{}", input());
+
+        let (mut letters, mut modes) = (vec![0x5a; letters], vec![0x5a; modes]);
+        let by_rust = welgadou::read(&road_of(road), &cells, up, down, &mut letters, &mut modes);
+        match &expected {
+            Ok(reading) => {
+                let counts = welgadou::Counts { modes: reading.counts, queued: reading.queued };
+                assert_eq!(by_rust, Ok(counts), "{}", input());
+                assert_eq!((letters, modes), (reading.letters.clone(), reading.modes.clone()), "{}", input());
+                assert_eq!(reading.counts.iter().sum::<u32>() as usize, cells.len(), "{}", input());
+            }
+            Err(refused) => {
+                assert_eq!(by_rust.map_err(pair_of), Err(*refused), "{}", input());
+                assert!(letters.iter().chain(&modes).all(|&x| x == 0x5a), "{}", input());
+            }
+        }
+        kind_of(&expected, |reading| if reading.queued == 0 { " free" } else { " queued" })
+    });
+}
+
+#[test]
+fn fits() {
+    cases("fit", 100_000, &[1, 2, 3, 4, 5, 9, 10, 11, 12], &[" holds", " fails at face 0", " fails"], |g| {
+        let (road, cells, up, down) = state(g);
+        let word = random::word(g, &road, &cells, up, down);
+        let expected = reference::fit(road, &cells, up, down, &word);
+        let input = || format!("road {road:?}, cells {cells:?}, up {up}, down {down}, word {word:?}");
+
+        let as_c = expected.map(|face| face.map_or((1, 0), |face| (0, face)));
+        assert_eq!(raw::fit(road, &cells, up, down, &word), as_c, "{}", input());
+
+        let as_rust = expected.map(|face| face.map_or(Fit::Holds, Fit::FailsAt));
+        let by_rust = welgadou::fit(&road_of(road), &cells, up, down, &word).map_err(pair_of);
+        assert_eq!(by_rust, as_rust, "{}", input());
+        kind_of(&expected, |face| match face {
+            None => " holds",
+            Some(0) => " fails at face 0",
+            Some(_) => " fails",
+        })
+    });
+}
+
+#[test]
+fn row_predictions() {
+    cases("rows", 100_000, &[1, 2, 3, 4, 5, 8, 9, 10, 11, 12], &[" negative", " not negative"], |g| {
+        let (road, cells, up, down) = state(g);
+        let word = random::word(g, &road, &cells, up, down);
+        let mut out = cells.len();
+        if g.one_in(8) {
+            out = random::other_length(g, out);
+        }
+        let expected = reference::rows(road, &cells, up, down, &word, out);
+        let input = || format!("road {road:?}, cells {cells:?}, up {up}, down {down}, word {word:?}, out {out}");
+
+        assert_eq!(raw::rows(road, &cells, up, down, &word, out), expected, "{}", input());
+
+        let mut buffer = vec![0x5a5a_5a5a_5a5a; out];
+        let by_rust = welgadou::rows(&road_of(road), &cells, up, down, &word, &mut buffer);
+        match &expected {
+            Ok(values) => {
+                assert_eq!(by_rust, Ok(()), "{}", input());
+                assert_eq!(&buffer, values, "{}", input());
+            }
+            Err(refused) => {
+                assert_eq!(by_rust.map_err(pair_of), Err(*refused), "{}", input());
+                assert!(buffer.iter().all(|&x| x == 0x5a5a_5a5a_5a5a), "{}", input());
+            }
+        }
+        kind_of(&expected, |values| if values.iter().any(|&x| x < 0) { " negative" } else { " not negative" })
+    });
+}
+
+/// With its own word a state's rows are the exact step, and D times the rounded density is less than D away.
+#[test]
+fn own_rows_are_the_exact_step() {
+    cases("own rows", 20_000, &[], &[""], |g| {
+        let road = random::good_road(g);
+        let n = random::size(g);
+        let cells = random::densities(g, &road, n);
+        let (up, down) = (random::density(g, &road), random::density(g, &road));
+        let (mut letters, mut modes, mut values, mut next) = (vec![0; n + 1], vec![0; n], vec![0; n], vec![0; n]);
+        let r = &road_of(road);
+        welgadou::read(r, &cells, up, down, &mut letters, &mut modes).expect("accepted");
+        welgadou::rows(r, &cells, up, down, &letters, &mut values).expect("accepted");
+        welgadou::forecast(r, &cells, &[up], &[down], 1, &mut next).expect("accepted");
+        let (exact, _) = exact::run(road, &cells, &[up], &[down]);
+        for i in 0..n {
+            let value = u32::try_from(values[i]).expect("an own row is no density times the divisor");
+            assert_eq!(Whole::new(value), exact[i], "cell {} of {cells:?}", i + 1);
+            let rounded = i64::from(next[i]) * i64::from(road[0]);
+            assert!((rounded - values[i]).abs() < i64::from(road[0]), "cell {} of {cells:?}", i + 1);
+        }
+        (0, "")
+    });
+}
+
+#[test]
+fn candidates() {
+    cases("candidate", 200_000, &[1, 2, 3, 4, 13, 14], &[" negative", " not negative"], |g| {
+        let mut road = random::good_road(g);
+        let mut estimates = [(); 3].map(|()| random::estimate(g, &road));
+        let mut mode = g.from(1, 7) as u8;
+        for _ in 0..faults(g) {
+            match g.below(4) {
+                0 => random::damage_road(g, &mut road),
+                1 => mode = g.bits() as u8,
+                _ => {
+                    let i = g.below(3);
+                    estimates[i] = random::bad_estimate(g, &road);
+                }
+            }
+        }
+        let expected = reference::candidate(road, mode, estimates);
+        let input = || format!("road {road:?}, mode {mode}, estimates {estimates:?}");
+        assert_eq!(raw::candidate(road, mode, estimates).map(f64::to_bits), expected.map(f64::to_bits), "{}", input());
+
+        let by_rust = welgadou::candidate(&road_of(road), mode, estimates[0], estimates[1], estimates[2]);
+        assert_eq!(by_rust.map(f64::to_bits).map_err(pair_of), expected.map(f64::to_bits), "{}", input());
+
+        if let Ok(value) = expected {
+            assert!(value != 0.0 || value.is_sign_positive(), "-0.0: {}", input());
+            if estimates.iter().all(|x| x.fract() == 0.0) {
+                let whole = reference::whole_candidate(road, mode, estimates.map(|x| x as i128));
+                assert_eq!(value as i128, whole, "{}", input());
+                assert_eq!(value.fract(), 0.0, "{}", input());
+            }
+        }
+        kind_of(&expected, |value| if *value < 0.0 { " negative" } else { " not negative" })
+    });
+}
+
+/// Every byte as a mode.
+#[test]
+fn every_mode() {
+    for road in random::CORNERS {
+        for mode in 0..=255 {
+            let expected = reference::candidate(road, mode, [1.0, 0.5, 2.0]);
+            assert_eq!(raw::candidate(road, mode, [1.0, 0.5, 2.0]), expected, "road {road:?}, mode {mode}");
+        }
+    }
+}
+
+#[test]
+fn word_counts() {
+    for cells in (0..=45).chain([100, 256, 1 << 31, u32::MAX - 1, u32::MAX]) {
+        let expected = reference::count(cells);
+        assert_eq!(raw::count(cells), expected, "{cells} cells");
+        assert_eq!(welgadou::count(cells).map_err(pair_of), expected, "{cells} cells");
+    }
+    for cells in 0..=11 {
+        let words = reference::legal_words(cells).len() as u64;
+        assert_eq!(welgadou::count(cells), Ok(words), "{cells} cells, one by one");
+    }
+    println!("count: 51 numbers of cells, the first 12 also word by word");
+}
+
+/// From 1 cell on, every legal word is the word of some state: a state is made for each, and read.
+#[test]
+fn every_legal_word_occurs() {
+    use reference::{D, L, W};
+    let mut tried = 0;
+    for road in random::CORNERS {
+        let [_, _, _, jam, critical] = road;
+        for n in 1..=6 {
+            for word in reference::legal_words(n as u32) {
+                let cell = |before: u8, after: u8| match (before, after) {
+                    (W, _) | (_, L) => jam,
+                    (_, W) => critical,
+                    _ => 0,
+                };
+                let cells: Vec<u32> = word.windows(2).map(|pair| cell(pair[0], pair[1])).collect();
+                let up = [critical, jam, 0][usize::from(word[0])];
+                let down = if word[n] == W { jam } else { 0 };
+                let (mut letters, mut modes) = (vec![D; n + 1], vec![0; n]);
+                welgadou::read(&road_of(road), &cells, up, down, &mut letters, &mut modes).expect("accepted");
+                assert_eq!(letters, word, "road {road:?}, cells {cells:?}, up {up}, down {down}");
+                tried += 1;
+            }
+        }
+    }
+    println!("legal words found as states: {tried}");
+}
+
+// Demand 3 and what follows.
+
+#[test]
+fn demand_3() {
+    cases("demand 3", 20_000, &[], &[" exact", " off by rounding"], |g| {
+        let road = random::good_road(g);
+        let [divisor, _, _, jam, _] = road;
+        let (n, steps) = (1 + g.below(8), g.below(13));
+        let cells = random::densities(g, &road, n);
+        let (up, down) = (random::densities(g, &road, steps), random::densities(g, &road, steps));
+        let mut out = vec![u32::MAX; n];
+        let totals = welgadou::forecast(&road_of(road), &cells, &up, &down, steps as u32, &mut out).expect("accepted");
+        let input = || format!("road {road:?}, cells {cells:?}, up {up:?}, down {down:?}");
+
+        assert!(out.iter().all(|&x| x <= jam), "{}", input());
+        let sum = |list: &[u32]| list.iter().map(|&x| u64::from(x)).sum::<u64>();
+        assert_eq!(sum(&cells) + totals.entered, sum(&out) + totals.left, "{}", input());
+
+        let (exact, z) = exact::run(road, &cells, &up, &down);
+        let mut distance = Whole::new(0);
+        for i in 0..n {
+            assert!(exact[i] <= z.times(jam), "{}", input());
+            distance = distance.plus(&z.times(out[i]).distance(&exact[i]));
+        }
+        let bound = z.times((n * steps) as u32).times(divisor - 1);
+        assert!(distance.times(divisor) <= bound, "{}", input());
+        (0, if distance == Whole::new(0) { " exact" } else { " off by rounding" })
+    });
+}
+
+/// Forecasts fed one another's cells: never refused, and the units of all of them balance.
+#[test]
+fn year_after_year() {
+    cases("chain of forecasts", 30, &[], &[""], |g| {
+        let road = random::good_road(g);
+        let n = random::size(g);
+        let mut cells = random::densities(g, &road, n);
+        let sum = |list: &[u32]| list.iter().map(|&x| u64::from(x)).sum::<u64>();
+        let (start, mut entered, mut left) = (sum(&cells), 0, 0);
+        for _ in 0..50 {
+            let steps = g.from(0, welgadou::Road::horizon_ceiling() / 8) as usize;
+            let (up, down) = (random::densities(g, &road, steps), random::densities(g, &road, steps));
+            let mut next = vec![0; n];
+            let totals = welgadou::forecast(&road_of(road), &cells, &up, &down, steps as u32, &mut next);
+            let totals = totals.expect("accepted");
+            entered += totals.entered;
+            left += totals.left;
+            cells = next;
+            assert_eq!(start + entered, sum(&cells) + left, "road {road:?}");
+        }
+        (0, "")
+    });
+}
+
+// Fixed cases.
+
+const ROAD_A: [u32; 5] = [5, 4, 1, 1000, 200];
+
+/// The ceilings that the document names.
+#[test]
+fn ceilings() {
+    assert_eq!(Road::cells_ceiling(), 256);
+    assert_eq!(Road::horizon_ceiling(), 4096);
+    assert_eq!(Road::divisor_ceiling(), 4096);
+    assert_eq!(Road::jam_ceiling(), 1_000_000);
+    assert_eq!(Road::count_ceiling(), 40);
+}
+
+/// The corner roads are accepted, and the document's bad roads refused.
+#[test]
+fn roads() {
+    for road in random::CORNERS {
+        assert_eq!(raw::settle(road, &[0], 0, 0, 1, 1), Ok((vec![0], 1, 0)), "{road:?}");
+    }
+    for (road, number) in
+        [([5, 6, 1, 1000, 200], 2), ([5, 4, 1, 1000, 1000], 3), ([5, 4, 1, 1000, 201], 4), ([0, 4, 1, 1, 200], 1)]
+    {
+        assert_eq!(raw::settle(road, &[0], 0, 0, 1, 1), Err((number, 0)), "{road:?}");
+    }
+}
+
+/// The document's cases on road A.
+#[test]
+fn road_a() {
+    let faces = [
+        (200, 200, 2, 160),
+        (200, 201, 0, 159),
+        (201, 200, 1, 160),
+        (100, 600, 2, 80),
+        (100, 601, 0, 79),
+        (0, 1000, 2, 0),
+        (1, 1000, 0, 0),
+    ];
+    for (a, b, letter, units) in faces {
+        let (letters, _, _, _) = raw::read(ROAD_A, &[b], a, 0, 2, 1).expect("accepted");
+        assert_eq!(letters[0], letter, "the letter of ({a}, {b})");
+        let (_, entered, _) = raw::forecast(ROAD_A, &[b], &[a], &[0], 1, 1).expect("accepted");
+        assert_eq!(entered, units, "the units of ({a}, {b})");
+    }
+    assert_eq!(raw::forecast(ROAD_A, &[101], &[0], &[0], 1, 1), Ok((vec![21], 0, 80)));
+    let cells = [300, 150, 700];
+    assert_eq!(raw::forecast(ROAD_A, &cells, &[100], &[0], 1, 3), Ok((vec![220, 250, 600], 80, 160)));
+    let (letters, modes, counts, queued) = raw::read(ROAD_A, &cells, 100, 0, 4, 3).expect("accepted");
+    assert_eq!((letters, modes), (vec![2, 1, 0, 1], vec![6, 3, 2]));
+    assert_eq!((counts, queued), (vec![0, 1, 1, 0, 0, 1, 0], 2));
+    assert_eq!(raw::rows(ROAD_A, &cells, 100, 0, &[2, 1, 0, 1], 3), Ok(vec![1100, 1250, 3000]));
+    assert_eq!(raw::rows(ROAD_A, &[0], 0, 0, &[2, 0], 1), Ok(vec![-1000]));
+    assert_eq!(raw::settle(ROAD_A, &[2], 0, 0, 9, 1), Ok((vec![1], 1, 1)));
+    for (cells, words) in [(0, 3), (1, 7), (2, 16), (5, 182), (10, 10426), (20, 34206521)] {
+        assert_eq!(raw::count(cells), Ok(words));
+    }
+}
+
+/// Every refusal has words of its own, and any number can be printed.
+#[test]
+fn refusals_have_words() {
+    let text = |number| Refusal { number, place: 3 }.to_string();
+    let reason = |number: u32| text(number).split_once(": ").expect("a reason").1.to_string();
+    for number in 1..=15 {
+        assert!(text(number).starts_with(&format!("refusal {number} at ")));
+        assert!((1..number).all(|other| reason(other) != reason(number)));
+        assert_ne!(reason(number), reason(u32::MAX));
+    }
+    for (number, place) in [(1, "place 3"), (9, "cell 3"), (10, "step 3"), (12, "face 3"), (14, "estimate 3")] {
+        assert!(text(number).starts_with(&format!("refusal {number} at {place}: ")));
+    }
+}

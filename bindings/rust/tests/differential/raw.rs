@@ -1,0 +1,215 @@
+//! The archive's functions as C sees them, with patterns in everything that a call may write and guards around it.
+
+use std::ptr;
+
+#[rustfmt::skip]
+extern "C" {
+    fn welgadou_forecast(
+        divisor: u32, free: u32, wave: u32, jam: u32, critical: u32, cells: *const u32, cells_len: usize,
+        upstream: *const u32, upstream_len: usize, downstream: *const u32, downstream_len: usize, horizon: u32,
+        out: *mut u32, out_len: usize, entered: *mut u64, left: *mut u64, place: *mut u32,
+    ) -> u32;
+    fn welgadou_settle(
+        divisor: u32, free: u32, wave: u32, jam: u32, critical: u32, cells: *const u32, cells_len: usize,
+        upstream: u32, downstream: u32, horizon: u32, out: *mut u32, out_len: usize, settled: *mut u32,
+        steps: *mut u32, place: *mut u32,
+    ) -> u32;
+    fn welgadou_read(
+        divisor: u32, free: u32, wave: u32, jam: u32, critical: u32, cells: *const u32, cells_len: usize,
+        upstream: u32, downstream: u32, letters: *mut u8, letters_len: usize, modes: *mut u8, modes_len: usize,
+        counts: *mut u32, queued: *mut u32, place: *mut u32,
+    ) -> u32;
+    fn welgadou_fit(
+        divisor: u32, free: u32, wave: u32, jam: u32, critical: u32, cells: *const u32, cells_len: usize,
+        upstream: u32, downstream: u32, word: *const u8, word_len: usize, holds: *mut u32, face: *mut u32,
+        place: *mut u32,
+    ) -> u32;
+    fn welgadou_rows(
+        divisor: u32, free: u32, wave: u32, jam: u32, critical: u32, cells: *const u32, cells_len: usize,
+        upstream: u32, downstream: u32, word: *const u8, word_len: usize, out: *mut i64, out_len: usize,
+        place: *mut u32,
+    ) -> u32;
+    fn welgadou_candidate(
+        divisor: u32, free: u32, wave: u32, jam: u32, critical: u32, mode: u8, left: f64, own: f64, right: f64,
+        numerator: *mut f64, place: *mut u32,
+    ) -> u32;
+    fn welgadou_count(cells: u32, words: *mut u64, place: *mut u32) -> u32;
+}
+
+/// A number that stands where a call may write, and that no call writes there.
+const PATTERN: u64 = 0xa5c3_5a3c_96e1_7b2d;
+
+/// A list is lent as a pointer; of length 0, as a null pointer.
+fn lent<T>(list: &[T]) -> *const T {
+    if list.is_empty() {
+        ptr::null()
+    } else {
+        list.as_ptr()
+    }
+}
+
+/// An output between two guards, all filled with the pattern.
+struct Buffer<T> {
+    all: Vec<T>,
+    pattern: T,
+}
+
+impl<T: Copy + PartialEq + std::fmt::Debug> Buffer<T> {
+    const GUARD: usize = 8;
+
+    fn new(length: usize, pattern: T) -> Buffer<T> {
+        Buffer { all: vec![pattern; length + 2 * Self::GUARD], pattern }
+    }
+
+    fn lent(&mut self) -> *mut T {
+        if self.all.len() == 2 * Self::GUARD {
+            ptr::null_mut()
+        } else {
+            self.all[Self::GUARD..].as_mut_ptr()
+        }
+    }
+
+    /// The contents, once the guards are seen whole.
+    fn contents(&self) -> &[T] {
+        let end = self.all.len() - Self::GUARD;
+        for guard in [&self.all[..Self::GUARD], &self.all[end..]] {
+            assert!(guard.iter().all(|x| *x == self.pattern), "written beside an output");
+        }
+        &self.all[Self::GUARD..end]
+    }
+
+    fn untouched(&self) -> bool {
+        self.contents().iter().all(|x| *x == self.pattern)
+    }
+}
+
+/// What a call answered: its values, or number and place. A refused call must have written the place alone, an accepted
+/// one 0 into it.
+fn answer<V>(number: u32, place: u32, untouched: bool, values: impl FnOnce() -> V) -> Result<V, (u32, u32)> {
+    if number == 0 {
+        assert_eq!(place, 0, "the place of an accepted call");
+        Ok(values())
+    } else {
+        assert!(untouched, "refusal {number} at {place}, but an output was written");
+        Err((number, place))
+    }
+}
+
+const WORD: u32 = PATTERN as u32;
+
+type Refused = (u32, u32);
+
+pub fn forecast(
+    [d, p, q, j, c]: [u32; 5],
+    cells: &[u32],
+    up: &[u32],
+    down: &[u32],
+    horizon: u32,
+    out: usize,
+) -> Result<(Vec<u32>, u64, u64), Refused> {
+    let (mut out_buffer, mut entered, mut left, mut place) = (Buffer::new(out, WORD), PATTERN, PATTERN, WORD);
+    // SAFETY: every pointer is that of a list beside its length, or of one local value.
+    #[rustfmt::skip]
+    let number = unsafe {
+        welgadou_forecast(
+            d, p, q, j, c, lent(cells), cells.len(), lent(up), up.len(), lent(down), down.len(), horizon,
+            out_buffer.lent(), out, &mut entered, &mut left, &mut place,
+        )
+    };
+    let untouched = out_buffer.untouched() && entered == PATTERN && left == PATTERN;
+    answer(number, place, untouched, || (out_buffer.contents().to_vec(), entered, left))
+}
+
+pub fn settle(
+    [d, p, q, j, c]: [u32; 5],
+    cells: &[u32],
+    up: u32,
+    down: u32,
+    horizon: u32,
+    out: usize,
+) -> Result<(Vec<u32>, u32, u32), Refused> {
+    let (mut out_buffer, mut settled, mut steps, mut place) = (Buffer::new(out, WORD), WORD, WORD, WORD);
+    // SAFETY: every pointer is that of a list beside its length, or of one local value.
+    #[rustfmt::skip]
+    let number = unsafe {
+        welgadou_settle(
+            d, p, q, j, c, lent(cells), cells.len(), up, down, horizon, out_buffer.lent(), out, &mut settled,
+            &mut steps, &mut place,
+        )
+    };
+    let untouched = out_buffer.untouched() && settled == WORD && steps == WORD;
+    answer(number, place, untouched, || (out_buffer.contents().to_vec(), settled, steps))
+}
+
+#[allow(clippy::type_complexity)]
+pub fn read(
+    [d, p, q, j, c]: [u32; 5],
+    cells: &[u32],
+    up: u32,
+    down: u32,
+    letters: usize,
+    modes: usize,
+) -> Result<(Vec<u8>, Vec<u8>, Vec<u32>, u32), Refused> {
+    let (mut letters_buffer, mut modes_buffer) = (Buffer::new(letters, 0xa5u8), Buffer::new(modes, 0xa5u8));
+    let (mut counts, mut queued, mut place) = (Buffer::new(7, WORD), WORD, WORD);
+    // SAFETY: every pointer is that of a list beside its length, of seven counts, or of one local value.
+    #[rustfmt::skip]
+    let number = unsafe {
+        welgadou_read(
+            d, p, q, j, c, lent(cells), cells.len(), up, down, letters_buffer.lent(), letters, modes_buffer.lent(),
+            modes, counts.lent(), &mut queued, &mut place,
+        )
+    };
+    let untouched = letters_buffer.untouched() && modes_buffer.untouched() && counts.untouched() && queued == WORD;
+    answer(number, place, untouched, || {
+        (letters_buffer.contents().to_vec(), modes_buffer.contents().to_vec(), counts.contents().to_vec(), queued)
+    })
+}
+
+pub fn fit([d, p, q, j, c]: [u32; 5], cells: &[u32], up: u32, down: u32, word: &[u8]) -> Result<(u32, u32), Refused> {
+    let (mut holds, mut face, mut place) = (WORD, WORD, WORD);
+    // SAFETY: every pointer is that of a list beside its length, or of one local value.
+    #[rustfmt::skip]
+    let number = unsafe {
+        welgadou_fit(
+            d, p, q, j, c, lent(cells), cells.len(), up, down, lent(word), word.len(), &mut holds, &mut face,
+            &mut place,
+        )
+    };
+    answer(number, place, holds == WORD && face == WORD, || (holds, face))
+}
+
+pub fn rows(
+    [d, p, q, j, c]: [u32; 5],
+    cells: &[u32],
+    up: u32,
+    down: u32,
+    word: &[u8],
+    out: usize,
+) -> Result<Vec<i64>, Refused> {
+    let (mut out_buffer, mut place) = (Buffer::new(out, PATTERN as i64), WORD);
+    // SAFETY: every pointer is that of a list beside its length, or of one local value.
+    #[rustfmt::skip]
+    let number = unsafe {
+        welgadou_rows(
+            d, p, q, j, c, lent(cells), cells.len(), up, down, lent(word), word.len(), out_buffer.lent(), out,
+            &mut place,
+        )
+    };
+    answer(number, place, out_buffer.untouched(), || out_buffer.contents().to_vec())
+}
+
+pub fn candidate([d, p, q, j, c]: [u32; 5], mode: u8, estimates: [f64; 3]) -> Result<f64, Refused> {
+    let (mut numerator, mut place) = (f64::from_bits(PATTERN), WORD);
+    let [left, own, right] = estimates;
+    // SAFETY: both pointers are those of local values.
+    let number = unsafe { welgadou_candidate(d, p, q, j, c, mode, left, own, right, &mut numerator, &mut place) };
+    answer(number, place, numerator.to_bits() == PATTERN, || numerator)
+}
+
+pub fn count(cells: u32) -> Result<u64, Refused> {
+    let (mut words, mut place) = (PATTERN, WORD);
+    // SAFETY: both pointers are those of local values.
+    let number = unsafe { welgadou_count(cells, &mut words, &mut place) };
+    answer(number, place, words == PATTERN, || words)
+}

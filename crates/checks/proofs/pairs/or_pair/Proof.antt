@@ -1,0 +1,75 @@
+-- `checks::or_pair` meets its contract: row by row below what the rows above came to.
+use mathlib.Core.Path.{_∙_, refl, ap}
+use Prim.Native.Nat.{ℕ, _+_, _≤_}
+use native.Mathlib.Omega.{arith}
+use lib.Dec.{ltb}
+use lib.ListN.{length}
+use Rattle.road.specs.Ceilings.{cellsCeiling}
+use Rattle.road.proofs.Table.{next-row}
+use Rattle.checks.proofs.First.{first-bound}
+use borrow.Author.Needs.{needs}
+use Rattle.checks.proofs.pairs.or_pair.Statement.{statement}
+use Rattle.checks.proofs.pairs.or_pair.Tie as tie
+
+first-above-requires : tie.Need-first-above-requires
+first-above-requires c κs = search needs
+
+is-above-requires : tie.Need-is-above-requires
+is-above-requires c κs = search needs
+
+is-above-requires-2 : tie.Need-is-above-requires-2
+is-above-requires-2 c κs = search needs
+
+-- the cells are few, so that a place fits
+short : (c : tie.After-first-above) → c .first-above .result ≤ cellsCeiling
+short c =
+    let s = c .before .before in
+    omega (arith, first-bound (s .args .road .jam) (s .args .cells .now), c .first-above .ensures, s .pre)
+
+add-or-if : tie.Need-add-or-if
+add-or-if c = let few = short (c .before .before) in omega arith
+
+cast-or-if : tie.Need-cast-or-if
+cast-or-if c = let few = short (c .before .before) in omega arith
+
+or-if-requires : tie.Need-or-if-requires
+or-if-requires c κs = search needs
+
+or-if-requires-2 : tie.Need-or-if-requires-2
+or-if-requires-2 c κs = search needs
+
+or-if-requires-3 : tie.Need-or-if-requires-3
+or-if-requires-3 c κs = search needs
+
+returns : tie.Need-returns
+returns c =
+    let down = c .before .before .before in
+    let up = down .before in
+    let cell = up .before in
+    let s = cell .before .before in
+    c .or-if3 .ensures
+    ∙ next-row 11
+    (c .before .or-if2 .ensures
+    ∙ next-row 10
+    (c .before .before .or-if .ensures
+    ∙ next-row 9 refl
+    (ap (λ (k : ℕ). ltb k (length (s .args .cells .now))) (cell .first-above .ensures))
+    (ap (λ (k : ℕ). k + 1) (cell .first-above .ensures)))
+    (up .is-above .ensures)
+    refl)
+    (down .is-above2 .ensures)
+    refl
+
+pub or-pair-spec : {M : Type 1} → statement M
+or-pair-spec =
+    tie.close
+    (tie.spec
+    first-above-requires
+    is-above-requires
+    is-above-requires-2
+    add-or-if
+    cast-or-if
+    or-if-requires
+    or-if-requires-2
+    or-if-requires-3
+    returns)

@@ -1,0 +1,26 @@
+-- `modes::weighted_speed` meets its contract: a speed is a small term.
+use native.Mathlib.Nat.{le-trans}
+use lib.Dec.{lit≤}
+use Rattle.modes.proofs.Sizes.{kept-pos}
+use Rattle.modes.proofs.Coefficients.{asked, part-kept}
+use borrow.Author.Needs.{needs}
+use Rattle.modes.proofs.numerators.weighted_speed.Statement.{statement}
+use Rattle.modes.proofs.numerators.weighted_speed.Tie as tie
+
+cast-weighted : tie.Need-cast-weighted
+cast-weighted c = search needs
+
+weighted-requires : tie.Need-weighted-requires
+weighted-requires c κs =
+    let (low, (high, (inside, small))) = c .pre in
+    (low, (high, (inside, asked (kept-pos (c .args .speed) (le-trans small (lit≤ tt))) (le-trans small (lit≤ tt)))))
+
+returns : tie.Need-returns
+returns c =
+    let s = c .before in
+    let (low, (high, (inside, small))) = s .pre in
+    part-kept (s .args .mode) low high (s .args .column) (s .args .speed) inside (le-trans small (lit≤ tt))
+    (kept-pos (s .args .speed) (le-trans small (lit≤ tt))) (c .weighted .ensures)
+
+pub weighted-speed-spec : {M : Type 1} → statement M
+weighted-speed-spec = tie.close (tie.spec cast-weighted weighted-requires returns)

@@ -1,0 +1,36 @@
+-- `picture::header_word` meets its contract: 65,536 bytes a row and 65,535 rows still fit 32 bits, with the start.
+use mathlib.Core.Path.{ap}
+use Prim.Native.Nat.{ℕ, _*_}
+use native.Mathlib.Omega.{arith}
+use lib.ListN.{getD}
+use Rattle.picture.specs.Bitmap.{headerWords, headerWord}
+use Rattle.picture.proofs.Laws.{pixels-few}
+use borrow.Author.Needs.{needs}
+use Rattle.picture.proofs.bitmap.header_word.Statement.{statement}
+use Rattle.picture.proofs.bitmap.header_word.Tie as tie
+
+row-bytes-requires : tie.Need-row-bytes-requires
+row-bytes-requires c κs = search needs
+
+mul-pixels : tie.Need-mul-pixels
+mul-pixels c = let h = pixels-few (c .row-bytes .result) (c .before .args .height) (omega arith) (search needs) in record { fits = omega arith }
+
+add-result : tie.Need-add-result
+add-result c = let h = pixels-few (c .row-bytes .result) (c .before .args .height) (omega arith) (search needs) in record { fits = omega arith }
+
+mul-result : tie.Need-mul-result
+mul-result c = search needs
+
+array-read-result : tie.Need-array-read-result
+array-read-result c = search needs
+
+returns : tie.Need-returns
+unfolding headerWord
+returns c =
+    let s = c .before .args in
+    ap (λ (row : ℕ). getD (headerWords (row * s .height) (s .width) (s .height)) (s .k) 0) (c .row-bytes .ensures)
+
+pub header-word-spec : {M : Type 1} → statement M
+header-word-spec =
+    tie.close
+    (tie.spec row-bytes-requires mul-pixels add-result mul-result array-read-result returns)

@@ -1,0 +1,61 @@
+-- `picture::write_start` meets its contract: the loop keeps `Listing`.
+use Prim.Native.Nat.{_-_}
+use native.Mathlib.Omega.{arith}
+use borrow.Author.Needs.{needs}
+use lib.ListN.{length, length-set}
+use Rattle.picture.specs.Bitmap.{startByte}
+use Rattle.picture.proofs.Listing.{Listing, begins, turns, ends}
+use Rattle.picture.proofs.bitmap.write_start.Statement.{statement}
+use Rattle.picture.proofs.bitmap.write_start.Tie as tie
+
+abbrev Inv-loop : tie.InvT-loop
+Inv-loop width height out₀ i₀ out i = Listing (startByte width height) (length out₀) out i
+
+abbrev μ-loop : tie.MeasureT-loop
+μ-loop width height out₀ i₀ out i = length out - i
+
+loop-holds : tie.Need-loop-holds Inv-loop μ-loop
+loop-holds c = let s = c .before in begins (startByte (s .args .width) (s .args .height)) (s .args .out .now)
+
+start-byte-requires : tie.Need-start-byte-requires Inv-loop μ-loop
+start-byte-requires c κs = search needs
+
+slice-write-out : tie.Need-slice-write-out Inv-loop μ-loop
+slice-write-out c = search needs
+
+add-i : tie.Need-add-i Inv-loop μ-loop
+add-i c = search needs
+
+loop-less : tie.Need-loop-less Inv-loop μ-loop
+loop-less c = simp length-set (omega arith)
+
+loop-again : tie.Need-loop-again Inv-loop μ-loop
+loop-again c =
+    let l = c .before .before in
+    let s = l .before .before in
+    turns (startByte (s .args .width) (s .args .height)) _ (l .loop .out) (l .loop .i) (l .loop .inv)
+    (c .start-byte .result) (c .before .loop-test .taken) (c .start-byte .ensures)
+
+same-length : tie.Need-same-length Inv-loop μ-loop
+same-length c = c .before .loop .inv .long
+
+returns : tie.Need-returns Inv-loop μ-loop
+returns c =
+    let l = c .before in
+    let s = l .before .before in
+    ends (startByte (s .args .width) (s .args .height)) _ (l .loop .out) (l .loop .i) (l .loop .inv) (c .loop-test .left)
+
+pub write-start-spec : {M : Type 1} → statement M
+write-start-spec =
+    tie.close
+    (tie.spec
+    Inv-loop
+    μ-loop
+    loop-holds
+    start-byte-requires
+    slice-write-out
+    add-i
+    loop-less
+    loop-again
+    same-length
+    returns)

@@ -1,0 +1,61 @@
+-- `picture::stretch` meets its contract: the loop keeps `Listing`.
+use Prim.Native.Nat.{_-_}
+use native.Mathlib.Omega.{arith}
+use borrow.Author.Needs.{needs}
+use lib.ListN.{length, length-set}
+use Rattle.picture.specs.Bitmap.{pixelOf}
+use Rattle.picture.proofs.Listing.{Listing, begins, turns, ends}
+use Rattle.picture.proofs.rows.stretch.Statement.{statement}
+use Rattle.picture.proofs.rows.stretch.Tie as tie
+
+abbrev Inv-loop : tie.InvT-loop
+Inv-loop shades across out₀ i₀ out i = Listing (pixelOf shades across) (length out₀) out i
+
+abbrev μ-loop : tie.MeasureT-loop
+μ-loop shades across out₀ i₀ out i = length out - i
+
+loop-holds : tie.Need-loop-holds Inv-loop μ-loop
+loop-holds c = let s = c .before .before in begins (pixelOf (s .args .shades .now) (s .args .across)) (s .args .out .now)
+
+pixel-requires : tie.Need-pixel-requires Inv-loop μ-loop
+pixel-requires c κs = search needs
+
+slice-write-out : tie.Need-slice-write-out Inv-loop μ-loop
+slice-write-out c = search needs
+
+add-i : tie.Need-add-i Inv-loop μ-loop
+add-i c = search needs
+
+loop-less : tie.Need-loop-less Inv-loop μ-loop
+loop-less c = simp length-set (omega arith)
+
+loop-again : tie.Need-loop-again Inv-loop μ-loop
+loop-again c =
+    let l = c .before .before in
+    let s = l .before .before .before in
+    turns (pixelOf (s .args .shades .now) (s .args .across)) _ (l .loop .out) (l .loop .i) (l .loop .inv)
+    (c .pixel .result) (c .before .loop-test .taken) (c .pixel .ensures)
+
+same-length : tie.Need-same-length Inv-loop μ-loop
+same-length c = c .before .loop .inv .long
+
+returns : tie.Need-returns Inv-loop μ-loop
+returns c =
+    let l = c .before in
+    let s = l .before .before .before in
+    ends (pixelOf (s .args .shades .now) (s .args .across)) _ (l .loop .out) (l .loop .i) (l .loop .inv) (c .loop-test .left)
+
+pub stretch-spec : {M : Type 1} → statement M
+stretch-spec =
+    tie.close
+    (tie.spec
+    Inv-loop
+    μ-loop
+    loop-holds
+    pixel-requires
+    slice-write-out
+    add-i
+    loop-less
+    loop-again
+    same-length
+    returns)

@@ -1,0 +1,73 @@
+-- `scenario::run` meets its contract: by the star.
+use mathlib.Core.Path.{sym}
+use native.Mathlib.Omega.{arith}
+use lib.Seq.{length-take-le}
+use Rattle.scenario.proofs.Runs.{counted, alone}
+use borrow.Author.Needs.{needs}
+use Rattle.scenario.proofs.items.run.Statement.{statement}
+use Rattle.scenario.proofs.items.run.Tie as tie
+
+piece-end-requires : tie.Need-piece-end-requires
+piece-end-requires c κs = search needs
+
+slice-aggregate-plain : tie.Need-slice-aggregate-plain
+slice-aggregate-plain c =
+    let t = c .before in
+    sym (length-take-le (t .before .piece-end .result) (t .before .before .before .args .word .now) (omega (arith, t .if1 .taken)))
+
+plain-requires : tie.Need-plain-requires
+plain-requires c κs = search needs
+
+add-number-of : tie.Need-add-number-of
+add-number-of c = search needs
+
+sub-number-of : tie.Need-sub-number-of
+sub-number-of c = search needs
+
+part-number-of-start : tie.Need-part-number-of-start
+part-number-of-start c = search needs
+
+part-number-of-end : tie.Need-part-number-of-end
+part-number-of-end c = search needs
+
+number-of-requires : tie.Need-number-of-requires
+number-of-requires c κs = search needs
+
+taken-requires : tie.Need-taken-requires
+taken-requires c κs = search needs
+
+single-requires : tie.Need-single-requires
+single-requires c κs = search needs
+
+returns : tie.Need-returns
+returns c =
+    let count = c .before in
+    let value = count .before .before in
+    let t = value .before .before in
+    let e = t .before in
+    let s = e .before .before in
+    counted (s .args .key) (s .args .word .now) (e .piece-end .result) (e .piece-end .ensures) (c .taken .result) (t .if1 .taken)
+    (value .plain .result) (count .number-of .result) (c .taken .ensures) (value .plain .ensures) (count .number-of .ensures)
+
+returns-2 : tie.Need-returns-2
+returns-2 c =
+    let e = c .before .before in
+    let s = e .before .before in
+    alone (s .args .key) (s .args .word .now) (e .piece-end .result) (e .piece-end .ensures) (c .single .result) (c .before .if1 .left) (c .single .ensures)
+
+pub run-spec : {M : Type 1} → statement M
+run-spec =
+    tie.close
+    (tie.spec
+    piece-end-requires
+    slice-aggregate-plain
+    plain-requires
+    add-number-of
+    sub-number-of
+    part-number-of-start
+    part-number-of-end
+    number-of-requires
+    taken-requires
+    single-requires
+    returns
+    returns-2)

@@ -1,0 +1,118 @@
+-- `scenario::judge` meets its contract: the loop keeps `Faultless`.
+use mathlib.Core.Path.{_∙_, refl}
+use Prim.Native.Nat.{_≤_, _-_}
+use native.Mathlib.Omega.{arith}
+use borrow.Author.Needs.{needs}
+use lib.ListN.{length}
+use borrow.Author.Tests.{eq-eqb}
+use Rattle.scenario.specs.Pieces.{newline}
+use Rattle.scenario.specs.Judging.{atStart, verdict}
+use Rattle.scenario.proofs.Cutting.{inside}
+use Rattle.scenario.proofs.Judged.{verdict-is}
+use Rattle.scenario.proofs.Midway.{Faultless, judge-begins, judge-found, judge-turns, judge-ends}
+use Rattle.scenario.proofs.judging.judge.Statement.{statement}
+use Rattle.scenario.proofs.judging.judge.Tie as tie
+
+abbrev Inv-loop : tie.InvT-loop
+Inv-loop text p₀ at₀ p at = Faultless text p at
+
+abbrev μ-loop : tie.MeasureT-loop
+μ-loop text p₀ at₀ p at = length text - at
+
+-- the piece lies in the text
+within : (c : tie.After-piece-end Inv-loop μ-loop)
+    → let l = c .before .before in
+    (l .loop .at ≤ c .piece-end .result) × (c .piece-end .result ≤ length (l .before .before .before .args .text .now))
+within c =
+    let l = c .before .before in
+    inside newline (l .before .before .before .args .text .now) (l .loop .at) (c .piece-end .result) (c .before .loop-test .taken) (c .piece-end .ensures)
+
+piece-end-requires : tie.Need-piece-end-requires Inv-loop μ-loop
+piece-end-requires c κs = search needs
+
+sub-judge-line : tie.Need-sub-judge-line Inv-loop μ-loop
+sub-judge-line c = within c .0
+
+part-judge-line-start : tie.Need-part-judge-line-start Inv-loop μ-loop
+part-judge-line-start c = within c .0
+
+part-judge-line-end : tie.Need-part-judge-line-end Inv-loop μ-loop
+part-judge-line-end c = within c .1
+
+returns : tie.Need-returns Inv-loop μ-loop
+unfolding verdict
+returns c = rw (eq-eqb (length (c .before .before .args .text .now)) 0 (c .if1 .taken)) refl
+
+loop-holds : tie.Need-loop-holds Inv-loop μ-loop
+unfolding atStart
+loop-holds c = judge-begins (c .before .before .args .text .now)
+
+judge-line-requires : tie.Need-judge-line-requires Inv-loop μ-loop
+judge-line-requires c κs =
+    let few = c .before .before .before .loop .inv .few in
+    let w = within (c .before) in
+    search needs
+
+outcome-requires : tie.Need-outcome-requires Inv-loop μ-loop
+outcome-requires c κs = search needs
+
+returns-2 : tie.Need-returns-2 Inv-loop μ-loop
+returns-2 c =
+    let t = c .before in
+    let q = t .before .before .judge-line in
+    let p = t .before .before .before .before in
+    let l = p .before .before in
+    let text = l .before .before .before .args .text .now in
+    c .outcome .ensures
+    ∙ verdict-is text (q .result) (l .before .if1 .left)
+    (judge-found text (l .loop .at) (p .piece-end .result) (p .before .loop-test .taken) (p .piece-end .ensures)
+    (l .loop .p) (q .result) (q .ensures) (l .loop .inv) (t .if2 .taken))
+
+add-at : tie.Need-add-at Inv-loop μ-loop
+add-at c = let w = within (c .before .before .before .before) in search needs
+
+loop-less : tie.Need-loop-less Inv-loop μ-loop
+loop-less c =
+    let p = c .before .before .before .before in
+    let w = within p in
+    omega (arith, p .before .loop-test .taken)
+
+loop-again : tie.Need-loop-again Inv-loop μ-loop
+loop-again c =
+    let q = c .before .before .judge-line in
+    let p = c .before .before .before .before in
+    let l = p .before .before in
+    judge-turns (l .before .before .before .args .text .now) (l .loop .at) (p .piece-end .result) (p .before .loop-test .taken) (p .piece-end .ensures)
+    (l .loop .p) (q .result) (q .ensures) (l .loop .inv) (c .if2 .left)
+
+outcome-requires-2 : tie.Need-outcome-requires-2 Inv-loop μ-loop
+outcome-requires-2 c κs = search needs
+
+returns-3 : tie.Need-returns-3 Inv-loop μ-loop
+returns-3 c =
+    let l = c .before .before in
+    let text = l .before .before .before .args .text .now in
+    c .outcome2 .ensures
+    ∙ verdict-is text (l .loop .p) (l .before .if1 .left)
+    (judge-ends text (l .loop .at) (c .before .loop-test .left) (l .loop .p) (l .loop .inv))
+
+pub judge-spec : {M : Type 1} → statement M
+judge-spec =
+    tie.close
+    (tie.spec
+    Inv-loop
+    μ-loop
+    returns
+    loop-holds
+    piece-end-requires
+    sub-judge-line
+    part-judge-line-start
+    part-judge-line-end
+    judge-line-requires
+    outcome-requires
+    returns-2
+    add-at
+    loop-less
+    loop-again
+    outcome-requires-2
+    returns-3)

@@ -1,0 +1,73 @@
+-- `scenario::wrong_line` meets its contract: a line's length, its head, and the values after it.
+use mathlib.Core.Path.{refl, _∙_, sym}
+use Prim.Native.Nat.{_≤_}
+use borrow.Author.Needs.{needs}
+use lib.ListN.{length}
+use borrow.Author.Tests.{lt-ltb}
+use Rattle.scenario.specs.Judging.{wrongLine}
+use Rattle.scenario.proofs.Headed.{head-inside, line-bare, line-unknown, line-known}
+use Rattle.scenario.proofs.judging.wrong_line.Statement.{statement}
+use Rattle.scenario.proofs.judging.wrong_line.Tie as tie
+
+returns : tie.Need-returns
+unfolding wrongLine
+returns c = rw (lt-ltb 4096 (length (c .before .before .args .line .now)) (c .if1 .taken)) refl
+
+head-of-requires : tie.Need-head-of-requires
+head-of-requires c κs = search needs
+
+returns-2 : tie.Need-returns-2
+returns-2 c =
+    let h = c .before .before in
+    let n = h .before in
+    sym (line-bare (n .before .before .args .line .now) (h .head-of .result) (h .head-of .ensures) (n .if1 .left) (c .if2 .taken))
+
+returns-3 : tie.Need-returns-3
+returns-3 c =
+    let k = c .before .before in
+    let h = k .before .before in
+    let n = h .before in
+    sym (line-unknown (n .before .before .args .line .now) (h .head-of .result) (h .head-of .ensures) (n .if1 .left) (k .if2 .left) (c .if3 .taken))
+
+-- the values stand in the line
+within : (c : tie.Else3)
+    → let h = c .before .before .before .before in
+    (h .head-of .result .from ≤ h .head-of .result .to) × (h .head-of .result .to ≤ length (h .before .before .before .args .line .now))
+within c =
+    let h = c .before .before .before .before in
+    head-inside (h .before .before .before .args .line .now) (h .head-of .result) (h .head-of .ensures)
+
+sub-wrong-values : tie.Need-sub-wrong-values
+sub-wrong-values c = within c .0
+
+part-wrong-values-start : tie.Need-part-wrong-values-start
+part-wrong-values-start c = within c .0
+
+part-wrong-values-end : tie.Need-part-wrong-values-end
+part-wrong-values-end c = within c .1
+
+wrong-values-requires : tie.Need-wrong-values-requires
+wrong-values-requires c κs = search needs
+
+returns-4 : tie.Need-returns-4
+returns-4 c =
+    let e = c .before .before in
+    let k = e .before .before in
+    let h = k .before .before in
+    let n = h .before in
+    c .wrong-values .ensures
+    ∙ sym (line-known (n .before .before .args .line .now) (h .head-of .result) (h .head-of .ensures) (n .if1 .left) (k .if2 .left) (e .if3 .left))
+
+pub wrong-line-spec : {M : Type 1} → statement M
+wrong-line-spec =
+    tie.close
+    (tie.spec
+    returns
+    head-of-requires
+    returns-2
+    returns-3
+    sub-wrong-values
+    part-wrong-values-start
+    part-wrong-values-end
+    wrong-values-requires
+    returns-4)

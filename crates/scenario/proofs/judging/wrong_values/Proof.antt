@@ -1,0 +1,41 @@
+-- `scenario::wrong_values` meets its contract: their number comes before the values.
+use mathlib.Core.Path.{_∙_, ap, sym}
+use mathlib.Core.Bool.{Bool}
+use Prim.Native.Nat.{ℕ}
+use borrow.Author.Needs.{needs}
+use Rattle.road.specs.Choice.{pick}
+use Rattle.scenario.specs.Pieces.{wordsIn}
+use Rattle.scenario.specs.Judging.{wrongValue}
+use Rattle.scenario.proofs.Judged.{values-wrong}
+use Rattle.scenario.proofs.judging.wrong_values.Statement.{statement}
+use Rattle.scenario.proofs.judging.wrong_values.Tie as tie
+
+count-words-requires : tie.Need-count-words-requires
+count-words-requires c κs = search needs
+
+wrong-number-requires : tie.Need-wrong-number-requires
+wrong-number-requires c κs = search needs
+
+wrong-value-requires : tie.Need-wrong-value-requires
+wrong-value-requires c κs = search needs
+
+returns : tie.Need-returns
+returns c =
+    let n = c .before in
+    let a = n .before .before .before .args in
+    let ws = wordsIn (a .part .now) in
+    ap (λ (b : Bool). pick {A = ℕ} b 5 (wrongValue (a .key) ws)) (sym (c .if1 .taken))
+    ∙ values-wrong (a .key) ws (n .before .count-words .result) (n .before .count-words .ensures) (n .wrong-number .result) (n .wrong-number .ensures)
+
+returns-2 : tie.Need-returns-2
+returns-2 c =
+    let e = c .before in
+    let n = e .before in
+    let a = n .before .before .before .args in
+    let ws = wordsIn (a .part .now) in
+    c .wrong-value .ensures
+    ∙ ap (λ (b : Bool). pick {A = ℕ} b 5 (wrongValue (a .key) ws)) (sym (e .if1 .left))
+    ∙ values-wrong (a .key) ws (n .before .count-words .result) (n .before .count-words .ensures) (n .wrong-number .result) (n .wrong-number .ensures)
+
+pub wrong-values-spec : {M : Type 1} → statement M
+wrong-values-spec = tie.close (tie.spec count-words-requires wrong-number-requires wrong-value-requires returns returns-2)

@@ -1,0 +1,71 @@
+-- `scenario::append` meets its contract: the loop keeps `Underway` for the value as often as it is still to be stored.
+use borrow.Author.Needs.{needs}
+use native.Mathlib.Omega.{arith}
+use Rattle.scenario.specs.Values.{repeated}
+use Rattle.scenario.proofs.Storing.{Underway, begins, turns, ends, stops, stored-one}
+use Rattle.scenario.proofs.Folds.{repeated-none, repeated-more}
+use Rattle.scenario.proofs.listing.append.Statement.{statement}
+use Rattle.scenario.proofs.listing.append.Tie as tie
+
+abbrev Inv-loop : tie.InvT-loop
+Inv-loop start filled value times at₀ left₀ out at left = Underway (repeated left value) (repeated times value) filled start out at
+
+abbrev μ-loop : tie.MeasureT-loop
+μ-loop start filled value times at₀ left₀ out at left = left
+
+loop-holds : tie.Need-loop-holds Inv-loop μ-loop
+loop-holds c = begins (repeated (c .args .times) (c .args .value)) (c .args .out .now) (c .args .filled) (c .pre)
+
+same-length : tie.Need-same-length Inv-loop μ-loop
+same-length c = c .before .before .loop .inv .long
+
+returns : tie.Need-returns Inv-loop μ-loop
+returns c = stops (c .before .before .loop .inv) (c .if1 .taken)
+
+mul-out : tie.Need-mul-out Inv-loop μ-loop
+mul-out c = search needs
+
+slice-write-out : tie.Need-slice-write-out Inv-loop μ-loop
+slice-write-out c = search needs
+
+add-at : tie.Need-add-at Inv-loop μ-loop
+add-at c = search needs
+
+sub-left : tie.Need-sub-left Inv-loop μ-loop
+sub-left c = search needs
+
+loop-less : tie.Need-loop-less Inv-loop μ-loop
+loop-less c = omega (arith, c .before .loop-test .taken)
+
+loop-again : tie.Need-loop-again Inv-loop μ-loop
+loop-again c =
+    let l = c .before .before in
+    let value = l .before .args .value in
+    turns (l .loop .inv) _ _ _ _ (repeated-more (l .loop .left) value (c .before .loop-test .taken))
+    (stored-one (l .loop .out) (l .loop .at) value (c .if1 .left))
+
+same-length-2 : tie.Need-same-length-2 Inv-loop μ-loop
+same-length-2 c = c .before .loop .inv .long
+
+returns-2 : tie.Need-returns-2 Inv-loop μ-loop
+returns-2 c =
+    let l = c .before in
+    ends (l .loop .inv) (repeated-none (l .loop .left) (l .before .args .value) (c .loop-test .left))
+
+pub append-spec : {M : Type 1} → statement M
+append-spec =
+    tie.close
+    (tie.spec
+    Inv-loop
+    μ-loop
+    loop-holds
+    same-length
+    returns
+    mul-out
+    slice-write-out
+    add-at
+    sub-left
+    loop-less
+    loop-again
+    same-length-2
+    returns-2)

@@ -1,0 +1,62 @@
+-- `scenario::leading` meets its contract: a search for the first word.
+use Prim.Native.Nat.{_-_}
+use mathlib.Core.Path.{_∙_, sym, ap}
+use mathlib.Core.Bool.{not}
+use lib.ListN.{length}
+use Rattle.scenario.specs.Pieces.{leading}
+use Rattle.scenario.proofs.Search.{Searching, found, turns, ends}
+use Rattle.scenario.proofs.Marks.{inWord, to-word}
+use borrow.Author.Needs.{needs}
+use Rattle.scenario.proofs.pieces.leading.Statement.{statement}
+use Rattle.scenario.proofs.pieces.leading.Tie as tie
+
+abbrev Inv-loop : tie.InvT-loop
+Inv-loop text i₀ i = Searching inWord text (leading text) i
+
+abbrev μ-loop : tie.MeasureT-loop
+μ-loop text i₀ i = length text - i
+
+loop-holds : tie.Need-loop-holds Inv-loop μ-loop
+loop-holds c = to-word (c .before .args .text .now)
+
+shared-slice-read-is-blank : tie.Need-shared-slice-read-is-blank Inv-loop μ-loop
+shared-slice-read-is-blank c = search needs
+
+is-blank-requires : tie.Need-is-blank-requires Inv-loop μ-loop
+is-blank-requires c κs = search needs
+
+returns : tie.Need-returns Inv-loop μ-loop
+returns c =
+    let l = c .before .before .before .before in
+    found _ 0 _ _ (l .loop .i) (l .loop .inv) (c .before .before .before .loop-test .taken) (ap not (sym (c .before .is-blank .ensures)) ∙ c .if1 .taken)
+
+add-i : tie.Need-add-i Inv-loop μ-loop
+add-i c = search needs
+
+loop-less : tie.Need-loop-less Inv-loop μ-loop
+loop-less c = search needs
+
+loop-again : tie.Need-loop-again Inv-loop μ-loop
+loop-again c =
+    let l = c .before .before .before .before in
+    turns _ 0 _ _ (l .loop .i) (l .loop .inv) (c .before .before .before .loop-test .taken) (ap not (sym (c .before .is-blank .ensures)) ∙ c .if1 .left)
+
+returns-2 : tie.Need-returns-2 Inv-loop μ-loop
+returns-2 c =
+    let l = c .before in
+    ends _ 0 _ _ (l .loop .i) (l .loop .inv) (c .loop-test .left)
+
+pub leading-spec : {M : Type 1} → statement M
+leading-spec =
+    tie.close
+    (tie.spec
+    Inv-loop
+    μ-loop
+    loop-holds
+    shared-slice-read-is-blank
+    is-blank-requires
+    returns
+    add-i
+    loop-less
+    loop-again
+    returns-2)

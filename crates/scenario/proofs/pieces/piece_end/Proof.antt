@@ -1,0 +1,61 @@
+-- `scenario::piece_end` meets its contract: a search for the mark.
+use Prim.Native.Nat.{_-_, _+_}
+use mathlib.Core.Path.{_∙_, sym}
+use lib.ListN.{length, drop}
+use Rattle.scenario.specs.Pieces.{cuts, before}
+use Rattle.scenario.proofs.Search.{Searching, found, turns, ends}
+use Rattle.scenario.proofs.Marks.{to-mark}
+use borrow.Author.Needs.{needs}
+use Rattle.scenario.proofs.pieces.piece_end.Statement.{statement}
+use Rattle.scenario.proofs.pieces.piece_end.Tie as tie
+
+abbrev Inv-loop : tie.InvT-loop
+Inv-loop text from mark i₀ i = Searching (cuts mark) text (from + before mark (drop from text)) i
+
+abbrev μ-loop : tie.MeasureT-loop
+μ-loop text from mark i₀ i = length text - i
+
+loop-holds : tie.Need-loop-holds Inv-loop μ-loop
+loop-holds c = let s = c .before in to-mark (s .args .mark) (s .args .from) (s .args .text .now) (s .pre)
+
+shared-slice-read-cuts : tie.Need-shared-slice-read-cuts Inv-loop μ-loop
+shared-slice-read-cuts c = search needs
+
+cuts-requires : tie.Need-cuts-requires Inv-loop μ-loop
+cuts-requires c κs = search needs
+
+returns : tie.Need-returns Inv-loop μ-loop
+returns c =
+    let l = c .before .before .before .before in
+    found _ 0 _ _ (l .loop .i) (l .loop .inv) (c .before .before .before .loop-test .taken) (sym (c .before .cuts .ensures) ∙ c .if1 .taken)
+
+add-i : tie.Need-add-i Inv-loop μ-loop
+add-i c = search needs
+
+loop-less : tie.Need-loop-less Inv-loop μ-loop
+loop-less c = search needs
+
+loop-again : tie.Need-loop-again Inv-loop μ-loop
+loop-again c =
+    let l = c .before .before .before .before in
+    turns _ 0 _ _ (l .loop .i) (l .loop .inv) (c .before .before .before .loop-test .taken) (sym (c .before .cuts .ensures) ∙ c .if1 .left)
+
+returns-2 : tie.Need-returns-2 Inv-loop μ-loop
+returns-2 c =
+    let l = c .before in
+    ends _ 0 _ _ (l .loop .i) (l .loop .inv) (c .loop-test .left)
+
+pub piece-end-spec : {M : Type 1} → statement M
+piece-end-spec =
+    tie.close
+    (tie.spec
+    Inv-loop
+    μ-loop
+    loop-holds
+    shared-slice-read-cuts
+    cuts-requires
+    returns
+    add-i
+    loop-less
+    loop-again
+    returns-2)

@@ -1,0 +1,147 @@
+-- From an answer of Level 2 to what its C call returns and writes.
+use mathlib.Core.Path.{_≡_, _∙_, sym, ap, subst}
+use mathlib.Core.List.{List}
+use Prim.Native.Nat.{ℕ}
+use lib.IntN.{ℤ}
+use lib.Ieee.{Float}
+use Rattle.road.specs.declared.Road.{Road}
+use Rattle.road.specs.declared.refusal.Refusal.{Refusal}
+use Rattle.modes.specs.declared.reading.ReadAnswer.{ReadAnswer}
+use Rattle.modes.specs.declared.reading.ReadAnswer.the-variants as R
+use Rattle.modes.specs.declared.reading.StateReading.{StateReading}
+use Rattle.modes.specs.declared.fitting.FitResult.{FitResult}
+use Rattle.modes.specs.declared.fitting.FitAnswer.{FitAnswer}
+use Rattle.modes.specs.declared.fitting.FitAnswer.the-variants as F
+use Rattle.modes.specs.declared.prediction.PredictAnswer.{PredictAnswer}
+use Rattle.modes.specs.declared.prediction.PredictAnswer.the-variants as P
+use Rattle.modes.specs.declared.candidates.CandidateResult.{CandidateResult}
+use Rattle.modes.specs.declared.candidates.CandidateAnswer.{CandidateAnswer}
+use Rattle.modes.specs.declared.candidates.CandidateAnswer.the-variants as C
+use Rattle.modes.specs.declared.counting.WordCount.{WordCount}
+use Rattle.modes.specs.declared.counting.CountAnswer.{CountAnswer}
+use Rattle.modes.specs.declared.counting.CountAnswer.the-variants as W
+use Rattle.modes.specs.Reading.{readNumber, readPlace, readAnswer, Reads}
+use Rattle.modes.specs.Fit as Fit
+use Rattle.modes.specs.Fit.{fitAnswer, fitMeaning}
+use Rattle.modes.specs.Prediction.{predictNumber, predictPlace, Predicts}
+use Rattle.modes.specs.Candidate as Candidate
+use Rattle.modes.specs.Candidate.{candidateAnswer, candidateMeaning}
+use Rattle.modes.specs.Count as Count
+use Rattle.modes.specs.Count.{countAnswer, countMeaning}
+use Rattle.welgadou.specs.Parts.{written, flagOf}
+use Rattle.welgadou.specs.Level2.{StateRead, WordFitted, RowsPredicted, CandidatePredicted, WordsCounted}
+use Rattle.welgadou.proofs.Answers.{told, refusal-keeps}
+
+module _ {s r : Road} {cells : List ℕ} {up down : ℕ} {letters letters-next modes modes-next : List ℕ} {a : StateReading} (here : s ≡ r) (called : Reads s cells up down letters letters-next modes modes-next a) where
+  reads : Reads r cells up down letters letters-next modes modes-next a
+  reads = subst (λ (x : Road). Reads x cells up down letters letters-next modes modes-next a) here called
+
+  pub read-done : {counts : List ℕ} {queued : ℕ} → a .answer ≡ R.Done
+      → StateRead r cells up down letters letters-next modes modes-next counts (a .counts .modes) queued (a .counts .queued) 0 0
+  read-done e = record {
+    returned = told readNumber e (reads .number);
+    placed = told readPlace e (reads .place);
+    letters-written = reads .letters-written;
+    modes-written = reads .modes-written;
+    counts-written = ap (λ (x : StateReading). x .counts .modes) (reads .answer);
+    queued-written = ap (λ (x : StateReading). x .counts .queued) (reads .answer);
+  }
+
+  pub read-refused : {f : Refusal} {counts : List ℕ} {queued : ℕ} → a .answer ≡ R.Refused f
+      → StateRead r cells up down letters letters-next modes modes-next counts counts queued queued (f .place) (f .number)
+  unfolding readAnswer
+  read-refused {f} e =
+      let number = told readNumber e (reads .number) in
+      let keeps : (C : Type 0) (value former : C) → former ≡ written (f .number) value former =
+      λ C. refusal-keeps {C = C} _ (λ q. cc (sym e ∙ ap (λ (x : StateReading). x .answer) q)) (reads .answer) number in
+      record {
+        returned = number;
+        placed = told readPlace e (reads .place);
+        letters-written = reads .letters-written;
+        modes-written = reads .modes-written;
+        counts-written = keeps (List ℕ) _ _;
+        queued-written = keeps ℕ _ _;
+      }
+
+module _ {s r : Road} {cells : List ℕ} {up down : ℕ} {word : List ℕ} {a : FitAnswer} (here : s ≡ r) (called : Fit.Fits s cells up down word a) where
+  fits : Fit.Fits r cells up down word a
+  fits = subst (λ (x : Road). Fit.Fits x cells up down word a) here called
+
+  pub fit-done : {d : FitResult} {holds face flag : ℕ} → a ≡ F.Done d → flag ≡ flagOf (d .holds) → WordFitted r cells up down word holds flag face (d .face) 0 0
+  fit-done e q =
+      let m = told Fit.meaning e (fits .means) in
+      record {
+        returned = ap (λ (x : Fit.Meaning). x .number) m;
+        placed = ap (λ (x : Fit.Meaning). x .place) m;
+        holds-written = q ∙ ap (λ (x : Fit.Meaning). flagOf (x .holds)) m;
+        face-written = ap (λ (x : Fit.Meaning). x .face) m;
+      }
+
+  pub fit-refused : {f : Refusal} {holds face : ℕ} → a ≡ F.Refused f → WordFitted r cells up down word holds holds face face (f .place) (f .number)
+  unfolding fitAnswer fitMeaning
+  fit-refused {f} e =
+      let m = told Fit.meaning e (fits .means) in
+      let keeps : (value former : ℕ) → former ≡ written (f .number) value former =
+      refusal-keeps _ (λ q. cc (sym e ∙ q)) (fits .answer) (ap (λ (x : Fit.Meaning). x .number) m) in
+      record {
+        returned = ap (λ (x : Fit.Meaning). x .number) m;
+        placed = ap (λ (x : Fit.Meaning). x .place) m;
+        holds-written = keeps _ _;
+        face-written = keeps _ _;
+      }
+
+-- the rows go through a list alone, so that one lemma serves both answers
+pub rows-answered : {s r : Road} {cells : List ℕ} {up down : ℕ} {word : List ℕ} {out next : List ℤ} {a : PredictAnswer} → s ≡ r → Predicts s cells up down word out next a
+    → (b : PredictAnswer) → a ≡ b → RowsPredicted r cells up down word out next (predictPlace b) (predictNumber b)
+rows-answered {cells = cells} {up = up} {down = down} {word = word} {out = out} {next = next} {a = a} here called b e =
+    let p = subst (λ (x : Road). Predicts x cells up down word out next a) here called in
+    record {
+      returned = told predictNumber e (p .number);
+      placed = told predictPlace e (p .place);
+      output = p .output;
+    }
+
+module _ {s r : Road} {mode : ℕ} {left own right : Float} {a : CandidateAnswer} (here : s ≡ r) (called : Candidate.Candidates s mode left own right a) where
+  candidates : Candidate.Candidates r mode left own right a
+  candidates = subst (λ (x : Road). Candidate.Candidates x mode left own right a) here called
+
+  pub candidate-done : {d : CandidateResult} {numerator : Float} → a ≡ C.Done d → CandidatePredicted r mode left own right numerator (d .numerator) 0 0
+  candidate-done e =
+      let m = told Candidate.meaning e (candidates .means) in
+      record {
+        returned = ap (λ (x : Candidate.Meaning). x .number) m;
+        placed = ap (λ (x : Candidate.Meaning). x .place) m;
+        numerator-written = ap (λ (x : Candidate.Meaning). x .value) m;
+      }
+
+  pub candidate-refused : {f : Refusal} {numerator : Float} → a ≡ C.Refused f → CandidatePredicted r mode left own right numerator numerator (f .place) (f .number)
+  unfolding candidateAnswer candidateMeaning
+  candidate-refused e =
+      let m = told Candidate.meaning e (candidates .means) in
+      let number = ap (λ (x : Candidate.Meaning). x .number) m in
+      record {
+        returned = number;
+        placed = ap (λ (x : Candidate.Meaning). x .place) m;
+        numerator-written = refusal-keeps _ (λ q. cc (sym e ∙ q)) (candidates .answer) number _ _;
+      }
+
+module _ {cells : ℕ} {a : CountAnswer} (called : Count.CountsWords cells a) where
+  pub count-done : {d : WordCount} {words : ℕ} → a ≡ W.Done d → WordsCounted cells words (d .words) 0 0
+  count-done e =
+      let m = told Count.meaning e (called .means) in
+      record {
+        returned = ap (λ (x : Count.Meaning). x .number) m;
+        placed = ap (λ (x : Count.Meaning). x .place) m;
+        words-written = ap (λ (x : Count.Meaning). x .words) m;
+      }
+
+  pub count-refused : {f : Refusal} {words : ℕ} → a ≡ W.Refused f → WordsCounted cells words words (f .place) (f .number)
+  unfolding countAnswer countMeaning
+  count-refused e =
+      let m = told Count.meaning e (called .means) in
+      let number = ap (λ (x : Count.Meaning). x .number) m in
+      record {
+        returned = number;
+        placed = ap (λ (x : Count.Meaning). x .place) m;
+        words-written = refusal-keeps _ (λ q. cc (sym e ∙ q)) (called .answer) number _ _;
+      }

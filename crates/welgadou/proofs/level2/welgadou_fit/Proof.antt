@@ -1,0 +1,47 @@
+-- `welgadou_fit` meets its contract: the answer below, case by case.
+use Rattle.welgadou.specs.Parts.{roadOf}
+use Rattle.welgadou.proofs.ModeAnswers.{fit-done, fit-refused}
+use borrow.Author.Needs.{needs}
+use Rattle.welgadou.proofs.level2.welgadou_fit.Statement.{statement}
+use Rattle.welgadou.proofs.level2.welgadou_fit.Tie as tie
+
+road-of-requires : tie.Need-road-of-requires
+road-of-requires c κs = search needs
+
+fit-requires : tie.Need-fit-requires
+fit-requires c κs = search needs
+
+enum-known-r : tie.Need-enum-known-r
+enum-known-r c = search needs
+
+flag-requires : tie.Need-flag-requires
+flag-requires c κs = search needs
+
+enum-known-f : tie.Need-enum-known-f
+enum-known-f c = search needs
+
+returns : tie.Need-returns
+returns c =
+    let called = c .before .before .before .before in
+    let given = called .before .before .before .before .args in
+    fit-done {r = roadOf (given .divisor) (given .free) (given .wave) (given .jam) (given .critical)}
+    (called .before .road-of .ensures) (called .fit .ensures) (c .before .before .r .given .1) (c .flag .ensures)
+
+returns-2 : tie.Need-returns-2
+returns-2 c =
+    let called = c .before .before .before in
+    let given = called .before .before .before .before .args in
+    fit-refused {r = roadOf (given .divisor) (given .free) (given .wave) (given .jam) (given .critical)}
+    (called .before .road-of .ensures) (called .fit .ensures) (c .before .f .given .1)
+
+pub welgadou-fit-spec : {M : Type 1} → statement M
+welgadou-fit-spec =
+    tie.close
+    (tie.spec
+    road-of-requires
+    fit-requires
+    enum-known-r
+    flag-requires
+    enum-known-f
+    returns
+    returns-2)

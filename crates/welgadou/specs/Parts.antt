@@ -1,0 +1,18 @@
+-- What the promises of the C calls share: the road of five numbers, a pointer's contents afterwards, a flag.
+use mathlib.Core.Bool.{Bool}
+use Prim.Native.Nat.{ℕ}
+use lib.Dec.{eqb}
+use Rattle.road.specs.Choice.{pick}
+use Rattle.road.specs.declared.Road.{Road}
+
+-- a road goes in as five numbers
+abbrev pub roadOf : ℕ → ℕ → ℕ → ℕ → ℕ → Road
+roadOf divisor free wave jam critical = record { divisor = divisor; free = free; wave = wave; jam = jam; critical = critical }
+
+-- what stands behind a pointer afterwards: the value where the call's number is 0, else its former contents
+abbrev pub written {ℓ} : {A : Type ℓ} → ℕ → A → A → A
+written number value former = pick (eqb number 0) value former
+
+-- 1 for true, 0 for false
+abbrev pub flagOf : Bool → ℕ
+flagOf b = pick b 1 0

@@ -1,0 +1,147 @@
+/* A first program with Welgadou: one road, one state, every call once. `tests/outside` compiles it as C99 and as C++,
+ * runs it and compares what it prints with forecast.expected.
+ *
+ *     rt staticlib welgadou
+ *     gcc -std=c99 -Iinclude examples/c/forecast.c target/staticlib/libwelgadou.a -o forecast
+ */
+#include <inttypes.h>
+#include <stdio.h>
+
+#include "welgadou.h"
+
+enum { CELLS = 3, STEPS = 4 };
+
+/* The road, in the order in which every call takes it: divisor, free, wave, jam, critical. Free traffic moves 4/5 of a
+ * cell a step, a jam's edge 1/5 of a cell back; 1000 units fill a cell, and the flow is greatest at 200. */
+#define ROAD 5, 4, 1, 1000, 200
+
+/* The refusal table in a program's own words. */
+static const char *words(uint32_t number)
+{
+    switch (number) {
+    case 0: return "accepted";
+    case 1: return "the divisor is 0 or above its ceiling";
+    case 2: return "a speed is 0 or above the divisor";
+    case 3: return "the jam or the critical density is out of its range";
+    case 4: return "the road's two flows at the critical density differ";
+    case 5: return "no cells, or more than their ceiling";
+    case 6: return "the horizon is above its ceiling";
+    case 7: return "a list of ends is not as long as the horizon";
+    case 8: return "an output has the wrong length";
+    case 9: return "a cell is above the jam density; the place is the cell";
+    case 10: return "an upstream end is above the jam density; the place is the step";
+    case 11: return "a downstream end is above the jam density; the place is the step";
+    case 12: return "the word has a wrong length, an unknown code or an illegal pair; the place is the face";
+    case 13: return "there is no such mode";
+    case 14: return "an estimate is not a number from 0 to the jam density; the place says which";
+    case 15: return "too many cells for a word count";
+    default: return "unknown";
+    }
+}
+
+/* Says what was refused, and whether anything was. */
+static int refused(const char *call, uint32_t number, uint32_t place)
+{
+    if (number != 0)
+        printf("%s: refusal %" PRIu32 " at %" PRIu32 ": %s\n", call, number, place, words(number));
+    return number != 0;
+}
+
+static void print_cells(const uint32_t *cells)
+{
+    int i;
+    for (i = 0; i < CELLS; i++)
+        printf(" %5" PRIu32, cells[i]);
+}
+
+int main(void)
+{
+    const uint32_t cells[CELLS] = { 300, 150, 700 };
+    const uint32_t upstream[STEPS] = { 100, 100, 120, 150 };
+    const uint32_t downstream[STEPS] = { 0, 0, 0, 900 };
+    uint32_t out[CELLS], settled, steps, counts[7], queued, holds, face, place, number;
+    uint64_t entered, left, legal;
+    uint8_t letters[CELLS + 1], modes[CELLS];
+    int64_t rows[CELLS];
+    double numerator;
+    uint32_t horizon;
+    int i;
+
+    /* The ceilings come from the library. */
+    if (CELLS > welgadou_cells_ceiling() || STEPS > welgadou_horizon_ceiling())
+        return 1;
+
+    /* Level 1: the forecast, for each horizon up to the last. */
+    printf("steps  cell 1, 2, 3       entered  left\n");
+    for (horizon = 0; horizon <= STEPS; horizon++) {
+        number = welgadou_forecast(ROAD, cells, CELLS, upstream, horizon, downstream, horizon, horizon, out, CELLS,
+                                   &entered, &left, &place);
+        if (refused("forecast", number, place))
+            return 1;
+        printf("%5" PRIu32, horizon);
+        print_cells(out);
+        printf(" %8" PRIu64 " %5" PRIu64 "\n", entered, left);
+    }
+
+    /* Level 1: how the state settles with ends that stay. */
+    number = welgadou_settle(ROAD, cells, CELLS, 100, 0, 1000, out, CELLS, &settled, &steps, &place);
+    if (refused("settle", number, place))
+        return 1;
+    printf("%s after %" PRIu32 " steps:", settled ? "settled" : "unsettled", steps);
+    print_cells(out);
+    printf("\n");
+
+    /* Level 2: the letters of the faces and the modes of the cells. */
+    number = welgadou_read(ROAD, cells, CELLS, 100, 0, letters, CELLS + 1, modes, CELLS, counts, &queued, &place);
+    if (refused("read", number, place))
+        return 1;
+    printf("letters");
+    for (i = 0; i <= CELLS; i++)
+        printf(" %c", "WLD"[letters[i]]);
+    printf(", modes");
+    for (i = 0; i < CELLS; i++)
+        printf(" %u", (unsigned)modes[i]);
+    printf(", cells in each mode");
+    for (i = 0; i < 7; i++)
+        printf(" %" PRIu32, counts[i]);
+    printf(", queued %" PRIu32 "\n", queued);
+
+    /* Level 2: the state fits its own word; after a change of its last letter it does not. */
+    number = welgadou_fit(ROAD, cells, CELLS, 100, 0, letters, CELLS + 1, &holds, &face, &place);
+    if (refused("fit", number, place))
+        return 1;
+    printf("the state's own word: %s\n", holds ? "holds" : "does not hold");
+    letters[CELLS] = WELGADOU_W;
+    number = welgadou_fit(ROAD, cells, CELLS, 100, 0, letters, CELLS + 1, &holds, &face, &place);
+    if (refused("fit", number, place))
+        return 1;
+    printf("with W at the last face: %s, lowest face %" PRIu32 "\n", holds ? "holds" : "does not hold", face);
+    letters[CELLS] = WELGADOU_L;
+
+    /* Level 2: the unrounded next densities, times the divisor. */
+    number = welgadou_rows(ROAD, cells, CELLS, 100, 0, letters, CELLS + 1, rows, CELLS, &place);
+    if (refused("rows", number, place))
+        return 1;
+    printf("rows");
+    for (i = 0; i < CELLS; i++)
+        printf(" %" PRId64, rows[i]);
+    printf("\n");
+
+    /* Level 2: a filter tries mode 6 for cell 1 with estimates of its own. */
+    number = welgadou_candidate(ROAD, 6, 100.25, 299.5, 150.0, &numerator, &place);
+    if (refused("candidate", number, place))
+        return 1;
+    printf("candidate %.2f\n", numerator);
+
+    /* Level 2: how many words a road of three cells can have. */
+    number = welgadou_count(CELLS, &legal, &place);
+    if (refused("count", number, place))
+        return 1;
+    printf("legal words of %d cells: %" PRIu64 "\n", CELLS, legal);
+
+    /* A refusal: D may not follow W. */
+    letters[1] = WELGADOU_W;
+    letters[2] = WELGADOU_D;
+    number = welgadou_rows(ROAD, cells, CELLS, 100, 0, letters, CELLS + 1, rows, CELLS, &place);
+    return refused("rows", number, place) ? 0 : 1;
+}

@@ -1,0 +1,281 @@
+/* welgadou.h - a traffic forecast for one uniform road, for C99 and C++.
+ *
+ * Welgadou works the triangular Godunov scheme, also called the cell transmission model, on whole numbers. This file is
+ * everything that a C or C++ program needs to know of it. Link with libwelgadou.a (x86-64 Linux), which
+ * `rt staticlib welgadou` writes.
+ *
+ * WHAT IS PROVED
+ *
+ * Every function below was proved against its contract before it was compiled, for all inputs and not for tested ones:
+ *
+ *   - It returns, whatever it is given.
+ *   - It judges road, lists and values by itself. Bad input gets the lowest number of the table under REFUSALS that
+ *     applies to the call, with that number's place. Nothing else is ever refused.
+ *   - A refused call writes to `place` and to nothing else.
+ *   - The results of an accepted call are those that the comments below define, number by number.
+ *   - A forecast's densities lie from 0 to jam; the units at the start plus those entered are the units at the end plus
+ *     those left; and the divisor times the distance from the same forecast made without rounding, summed over the
+ *     cells, is at most cells x steps x (divisor - 1).
+ *   - The cells that a forecast or a settling run hands back are accepted as the next one's start, on the same road,
+ *     for ever.
+ *
+ * docs/CERTIFICATE.md names the theorem behind each sentence, and what the proofs rest on.
+ *
+ * WHAT THE CALLER OWES
+ *
+ *   - A pointer stands for as many readable (`const`) or writable values as the length beside it says, a pointer
+ *     without a length for one value, `counts` for seven.
+ *   - Memory that a call writes overlaps nothing else that the same call is given.
+ *   - All of it stays valid, and no one else changes it, until the call has returned.
+ *   - Floating point is in the state that a C program starts in: rounding to nearest, subnormal numbers kept. Only
+ *     welgadou_candidate uses it. (Linking with -ffast-math may change that state.)
+ *
+ * A list of length 0 may come with a null pointer: nothing is read or written through it. Other pointers are never null.
+ * Nothing else is owed. The library keeps nothing between calls, takes no memory and calls no other library, so that
+ * several threads may call it at once, each with memory of its own.
+ *
+ * THE ROAD AND ITS UNITS
+ *
+ * A unit is a part of a vehicle, of a size that you choose. A density is a number of whole units in one cell, a flow a
+ * number of units in one step. A road is five numbers, the same at every call:
+ *
+ *   divisor    the denominator of both speeds, from 1 to its ceiling
+ *   free       free traffic moves free/divisor cells a step; from 1 to divisor
+ *   wave       a jam's edge moves back wave/divisor cells a step; from 1 to divisor
+ *   jam        the density of standing traffic, from 2 to its ceiling
+ *   critical   the density at which the flow is greatest, from 1 to jam - 1
+ *
+ * and free x critical = wave x (jam - critical). The cells of a list are numbered from 1, in driving direction. Beyond
+ * them lie two ends, `upstream` before cell 1 and `downstream` after the last. With n cells there are n + 1 faces: face 0
+ * lies before cell 1, face i between the cells i and i + 1, face n after cell n.
+ *
+ * FLOW AND LETTER OF A FACE
+ *
+ * With density a upstream of a face and b downstream of it,
+ *
+ *   numerator = the smaller of free x min(a, critical) and wave x (jam - max(b, critical))
+ *   units     = numerator / divisor, rounded down
+ *
+ * and the face has one letter, given as a one-byte code:
+ *
+ *   W, 0   b is above critical, and wave x (jam - b) < free x a
+ *   L, 1   a is above critical, b is not
+ *   D, 2   a is not above critical, and wave x (jam - b) >= free x a
+ *
+ * A word is the letters of all faces, face 0 first. D never follows W, and L never follows L: a word that keeps to this
+ * is legal. A step moves all faces' units at once, worked from the densities before it: a cell's new density is its old
+ * one, plus the units over the face before it, minus those over the face after it.
+ *
+ * REFUSALS
+ *
+ * A call returns 0 where it accepts its input, else a number of this table. `place` is written in both cases.
+ *
+ *    Number  Reason                                                    Place
+ *     1      divisor is 0 or above its ceiling                         0
+ *     2      free or wave is 0 or above divisor                        0
+ *     3      jam or critical is out of its range                       0
+ *     4      free x critical is not wave x (jam - critical)            0
+ *     5      there are no cells, or more than their ceiling            0
+ *     6      the horizon is above its ceiling                          0
+ *     7      a list of ends is not as long as the horizon              0
+ *     8      an output has not the length that its call asks for       0
+ *     9      a cell is above jam                                       the first such cell, from 1
+ *    10      an upstream end is above jam                              the first such step, from 0
+ *    11      a downstream end is above jam                             the first such step, from 0
+ *    12      a word is not n + 1 letters long                          n + 1
+ *            else: it has an unknown code or an illegal pair           the lowest such face; of a pair, the second
+ *    13      the mode is not 1 to 7                                    0
+ *    14      an estimate is not a number, below 0 or above jam         the first such: 1 left, 2 own, 3 right
+ *    15      cells of a word count are above their ceiling             0
+ *    (none)  0: accepted                                               0
+ *
+ * A call with one pair of ends reports 10 and 11 at place 0. The number 12 takes the lowest face with either fault.
+ */
+#ifndef WELGADOU_H
+#define WELGADOU_H
+
+#include <stddef.h>
+#include <stdint.h>
+
+#ifdef __cplusplus
+extern "C" {
+#endif
+
+/* The letter codes of a word. */
+enum { WELGADOU_W = 0, WELGADOU_L = 1, WELGADOU_D = 2 };
+
+/* ------------------------------------------------------------------------------------------------------------------
+ * Ceilings: the largest values that are accepted. Ask for them; do not write them into your program.
+ * ------------------------------------------------------------------------------------------------------------------ */
+
+/* Returns: the largest number of cells in a list. */
+uint32_t welgadou_cells_ceiling(void);
+
+/* Returns: the largest horizon, in steps. */
+uint32_t welgadou_horizon_ceiling(void);
+
+/* Returns: the largest divisor of a road. */
+uint32_t welgadou_divisor_ceiling(void);
+
+/* Returns: the largest jam density of a road. */
+uint32_t welgadou_jam_ceiling(void);
+
+/* Returns: the largest number of cells in a word count. */
+uint32_t welgadou_count_ceiling(void);
+
+/* ------------------------------------------------------------------------------------------------------------------
+ * Level 1: forecast and settling run
+ * ------------------------------------------------------------------------------------------------------------------ */
+
+/* Makes `horizon` steps from the given cells, each with its own pair of ends.
+ *
+ * Returns:  0, or the number of the refusal.
+ * In:       divisor, free, wave, jam, critical: the road.
+ *           cells, cells_len:             the densities at the start, n = cells_len of them.
+ *           upstream, upstream_len:       the density before cell 1, one for each step, the first step's first.
+ *           downstream, downstream_len:   the density after cell n, likewise. Both lengths are `horizon`.
+ *           horizon:                      how many steps to make. With 0 the start comes back.
+ * Out:      out, out_len:                 the n densities after the last step; out_len is n.
+ *           entered:                      the units that moved over face 0, in all steps together.
+ *           left:                         the units that moved over face n, in all steps together.
+ *           place:                        0, or the place of the refusal.
+ * Refusals: 1 to 11.
+ */
+uint32_t welgadou_forecast(uint32_t divisor, uint32_t free, uint32_t wave, uint32_t jam, uint32_t critical,
+                           const uint32_t *cells, size_t cells_len,
+                           const uint32_t *upstream, size_t upstream_len,
+                           const uint32_t *downstream, size_t downstream_len,
+                           uint32_t horizon,
+                           uint32_t *out, size_t out_len,
+                           uint64_t *entered, uint64_t *left, uint32_t *place);
+
+/* Steps with one pair of ends until a step would be still, or the horizon is used up. A step is still where every face
+ * keeps its letter and the cells keep their sum.
+ *
+ * Returns:  0, or the number of the refusal.
+ * In:       divisor, free, wave, jam, critical: the road.
+ *           cells, cells_len:             the densities at the start, n = cells_len of them.
+ *           upstream, downstream:         the densities beyond the two ends, in every step. They are judged even where
+ *                                         the horizon is 0.
+ *           horizon:                      how many steps to make at most.
+ * Out:      out, out_len:                 the n densities reached; out_len is n.
+ *           settled:                      1 where some k below the horizon has step k + 1 still, else 0.
+ *           steps:                        the least such k, else the horizon: the steps that lead to `out`.
+ *           place:                        0, or the place of the refusal.
+ * Refusals: 1 to 6, 8 to 11.
+ */
+uint32_t welgadou_settle(uint32_t divisor, uint32_t free, uint32_t wave, uint32_t jam, uint32_t critical,
+                         const uint32_t *cells, size_t cells_len,
+                         uint32_t upstream, uint32_t downstream,
+                         uint32_t horizon,
+                         uint32_t *out, size_t out_len,
+                         uint32_t *settled, uint32_t *steps, uint32_t *place);
+
+/* ------------------------------------------------------------------------------------------------------------------
+ * Level 2: letters, modes and rows
+ *
+ * The mode of a cell follows from the letters of the faces before and after it. Each mode has a row, which gives the
+ * density after one step, times the divisor, before any rounding:
+ *
+ *    Mode  Letters  Row
+ *     1    W W      divisor x own  - wave x own      + wave x right
+ *     2    W L      divisor x own  - wave x own                      + wave x critical
+ *     3    L W      divisor x own                    + wave x right  - wave x critical
+ *     4    L D      divisor x own  - free x own                      + free x critical
+ *     5    D W      divisor x own  + free x left     + wave x right  - wave x jam
+ *     6    D L      divisor x own  + free x left                     - free x critical
+ *     7    D D      divisor x own  + free x left     - free x own
+ *
+ * where left, own and right are the densities before, in and after the cell, an end's beyond the first and the last one.
+ * ------------------------------------------------------------------------------------------------------------------ */
+
+/* Reads a state: the letter of each face and the mode of each cell.
+ *
+ * Returns:  0, or the number of the refusal.
+ * In:       divisor, free, wave, jam, critical: the road.
+ *           cells, cells_len:             the densities, n = cells_len of them.
+ *           upstream, downstream:         the densities beyond the two ends.
+ * Out:      letters, letters_len:         the state's word, one code a face; letters_len is n + 1.
+ *           modes, modes_len:             the mode of each cell, 1 to 7; modes_len is n.
+ *           counts:                       seven numbers: counts[m - 1] cells are in mode m. Their sum is n.
+ *           queued:                       how many cells are in the modes 1, 2 and 3.
+ *           place:                        0, or the place of the refusal.
+ * Refusals: 1 to 5, 8 to 11; 8 where either output has the wrong length.
+ */
+uint32_t welgadou_read(uint32_t divisor, uint32_t free, uint32_t wave, uint32_t jam, uint32_t critical,
+                       const uint32_t *cells, size_t cells_len,
+                       uint32_t upstream, uint32_t downstream,
+                       uint8_t *letters, size_t letters_len,
+                       uint8_t *modes, size_t modes_len,
+                       uint32_t *counts, uint32_t *queued, uint32_t *place);
+
+/* Tests whether a state has the given word.
+ *
+ * Returns:  0, or the number of the refusal.
+ * In:       divisor, free, wave, jam, critical: the road.
+ *           cells, cells_len:             the densities, n = cells_len of them.
+ *           upstream, downstream:         the densities beyond the two ends.
+ *           word, word_len:               a legal word, n + 1 letter codes.
+ * Out:      holds:                        1 where every face has the word's letter, else 0.
+ *           face:                         the lowest face that has another letter; 0 where all hold.
+ *           place:                        0, or the place of the refusal.
+ * Refusals: 1 to 5, 9 to 12.
+ */
+uint32_t welgadou_fit(uint32_t divisor, uint32_t free, uint32_t wave, uint32_t jam, uint32_t critical,
+                      const uint32_t *cells, size_t cells_len,
+                      uint32_t upstream, uint32_t downstream,
+                      const uint8_t *word, size_t word_len,
+                      uint32_t *holds, uint32_t *face, uint32_t *place);
+
+/* Applies the rows of a legal word to a state, whether or not the word is the state's own. With its own word each number
+ * is exactly the next density times the divisor, and the rounded density times the divisor is less than a divisor away.
+ * With a foreign word a number may be negative.
+ *
+ * Returns:  0, or the number of the refusal.
+ * In:       divisor, free, wave, jam, critical: the road.
+ *           cells, cells_len:             the densities, n = cells_len of them.
+ *           upstream, downstream:         the densities beyond the two ends.
+ *           word, word_len:               a legal word, n + 1 letter codes.
+ * Out:      out, out_len:                 the value of each cell's row; out_len is n.
+ *           place:                        0, or the place of the refusal.
+ * Refusals: 1 to 5, 8 to 12.
+ */
+uint32_t welgadou_rows(uint32_t divisor, uint32_t free, uint32_t wave, uint32_t jam, uint32_t critical,
+                       const uint32_t *cells, size_t cells_len,
+                       uint32_t upstream, uint32_t downstream,
+                       const uint8_t *word, size_t word_len,
+                       int64_t *out, size_t out_len, uint32_t *place);
+
+/* Applies the row of one mode to estimates of three neighbouring densities, for a filter that tries modes. A row is four
+ * doubles, each a whole number without error: the coefficients of left, own and right, and the constant. The result is
+ * ((left x coefficient + own x coefficient) + right x coefficient) + constant, each operation rounded once, to nearest.
+ * Where the three estimates are whole numbers it is the row's value without error. It is never -0.0.
+ *
+ * Returns:  0, or the number of the refusal.
+ * In:       divisor, free, wave, jam, critical: the road.
+ *           mode:                         1 to 7.
+ *           left, own, right:             the estimates, each from 0 to jam, fractions allowed. -0.0 counts as 0.
+ * Out:      numerator:                    the estimate of the own density after one step, times the divisor.
+ *           place:                        0, or the place of the refusal.
+ * Refusals: 1 to 4, 13, 14.
+ */
+uint32_t welgadou_candidate(uint32_t divisor, uint32_t free, uint32_t wave, uint32_t jam, uint32_t critical,
+                            uint8_t mode, double left, double own, double right,
+                            double *numerator, uint32_t *place);
+
+/* Counts the legal words of a road of so many cells: the words of cells + 1 letters. From one cell on, each of them is
+ * the word of some state, on every accepted road.
+ *
+ * Returns:  0, or the number of the refusal.
+ * In:       cells:                        how many cells, from 0 to their ceiling.
+ * Out:      words:                        how many legal words there are.
+ *           place:                        0 in either case.
+ * Refusals: 15.
+ */
+uint32_t welgadou_count(uint32_t cells, uint64_t *words, uint32_t *place);
+
+#ifdef __cplusplus
+}
+#endif
+
+#endif
