@@ -1,5 +1,5 @@
-/* Times the proved calls against plain and tuned C on the same input, interleaved, best of many, and prints ratios. What
- * a proved call spends on judging its input is part of its time; the C kernels judge nothing. */
+/* Times four of the proved calls against plain and tuned C on the same input, interleaved, best of many, and prints
+ * ratios. What a proved call spends on judging its input is part of its time; the C kernels judge nothing. */
 #include <stdio.h>
 #include <stdlib.h>
 #include <string.h>

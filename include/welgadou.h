@@ -6,7 +6,7 @@
  *
  * WHAT IS PROVED
  *
- * Every function below was proved against its contract before it was compiled, for all inputs and not for tested ones:
+ * Every function below was proved against its contract before it was compiled, for all inputs, not only for tested ones:
  *
  *   - It returns, whatever it is given.
  *   - It judges road, lists and values by itself. Bad input gets the lowest number of the table under REFUSALS that
@@ -90,6 +90,9 @@
  *    (none)  0: accepted                                               0
  *
  * A call with one pair of ends reports 10 and 11 at place 0. The number 12 takes the lowest face with either fault.
+ *
+ * After a refusal nothing but `place` has changed: mend what number and place name, and call again. The same input always
+ * gets the same answer.
  */
 #ifndef WELGADOU_H
 #define WELGADOU_H

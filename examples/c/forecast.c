@@ -1,4 +1,4 @@
-/* A first program with Welgadou: one road, one state, every call once. `tests/outside` compiles it as C99 and as C++,
+/* A first program with Welgadou: one road, one state, every call of both levels. `tests/outside` compiles it as C99 and as C++,
  * runs it and compares what it prints with forecast.expected.
  *
  *     rt staticlib welgadou
@@ -31,7 +31,7 @@ static const char *words(uint32_t number)
     case 9: return "a cell is above the jam density; the place is the cell";
     case 10: return "an upstream end is above the jam density; the place is the step";
     case 11: return "a downstream end is above the jam density; the place is the step";
-    case 12: return "the word has a wrong length, an unknown code or an illegal pair; the place is the face";
+    case 12: return "the word has a wrong length, an unknown code or an illegal pair; the place is the face, or n + 1 for the length";
     case 13: return "there is no such mode";
     case 14: return "an estimate is not a number from 0 to the jam density; the place says which";
     case 15: return "too many cells for a word count";
@@ -68,8 +68,10 @@ int main(void)
     int i;
 
     /* The ceilings come from the library. */
-    if (CELLS > welgadou_cells_ceiling() || STEPS > welgadou_horizon_ceiling())
-        return 1;
+    printf("up to %" PRIu32 " cells and %" PRIu32 " steps, divisor up to %" PRIu32 ", jam up to %" PRIu32
+           ", words counted up to %" PRIu32 " cells\n",
+           welgadou_cells_ceiling(), welgadou_horizon_ceiling(), welgadou_divisor_ceiling(), welgadou_jam_ceiling(),
+           welgadou_count_ceiling());
 
     /* Level 1: the forecast, for each horizon up to the last. */
     printf("steps  cell 1, 2, 3       entered  left\n");

@@ -3,7 +3,7 @@
 //! ```
 //! use welgadou::letter::{D, L, W};
 //!
-//! // One cell with free traffic before it and a queue behind it.
+//! // One cell with free traffic upstream of it and a queue downstream.
 //! let road = welgadou::Road { divisor: 5, free: 4, wave: 1, jam: 1000, critical: 200 };
 //! assert_eq!(welgadou::fit(&road, &[150], 100, 900, &[D, W])?, welgadou::Fit::Holds);
 //! // L is the face at which a queue dissolves.

@@ -17,7 +17,8 @@ use std::fmt;
 pub struct Refusal {
     /// The number, from 1 on.
     pub number: u32,
-    /// The place: a cell (from 1), a step or a face (from 0), an estimate (1 to 3), and 0 where the number has none.
+    /// The place: a cell (from 1), a step or a face (from 0; n + 1 for a word of another length), an estimate (1 to 3), and 0
+    /// where the number has none.
     pub place: u32,
 }
 

@@ -52,6 +52,7 @@ fn count(o: Options, text: &[u8]) {
     }
 }
 
+// All actions that the text asks for.
 pub fn all(o: Options, text: &[u8]) {
     forecast(o, text);
     settle(o, text);

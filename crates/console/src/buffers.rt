@@ -14,6 +14,7 @@ const WORD: usize = Road::CELLS as usize + 2;
 
 const SHADES: usize = Road::CELLS as usize * ENDS;
 
+// A text.
 pub fn text() -> [u8; TEXT]
     ensures { λ r. ⌜ 262145 ≡ length r ⌝ }
 {
@@ -27,12 +28,14 @@ pub fn values() -> [u64; ENDS]
     [0u64; ENDS]
 }
 
+// The cells of a state.
 pub fn cells() -> [u32; CELLS]
     ensures { λ r. ⌜ 257 ≡ length r ⌝ }
 {
     [0u32; CELLS]
 }
 
+// The ends of one side.
 pub fn ends() -> [u32; ENDS]
     ensures { λ r. ⌜ 4097 ≡ length r ⌝ }
 {
@@ -46,6 +49,7 @@ pub fn codes() -> [u8; WORD]
     [0u8; WORD]
 }
 
+// The numerators of rows.
 pub fn rows() -> [i64; CELLS]
     ensures { λ r. ⌜ 257 ≡ length r ⌝ }
 {
@@ -66,6 +70,7 @@ pub fn row() -> [u8; 4100]
     [0u8; 4100]
 }
 
+// The start of a picture's file, up to its first row.
 pub fn start() -> [u8; 1078]
     ensures { λ r. ⌜ 1078 ≡ length r ⌝ }
 {

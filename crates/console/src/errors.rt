@@ -138,6 +138,7 @@ fn at_end(lines: bool, text: &[u8], message: &[u8]) {
     say::to(fd, message);
 }
 
+// A text without an action.
 pub fn asks_nothing(lines: bool, text: &[u8]) {
     at_end(
         lines,
@@ -146,6 +147,7 @@ pub fn asks_nothing(lines: bool, text: &[u8]) {
     );
 }
 
+// A picture asked for without a forecast.
 pub fn picture(lines: bool, text: &[u8]) {
     at_end(lines, text, b"--picture needs forecast\n");
 }

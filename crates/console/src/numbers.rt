@@ -87,6 +87,7 @@ pub fn one(text: &[u8], key: u8) -> u32 {
     narrow(v[0])
 }
 
+// The candidate's mode.
 pub fn mode(text: &[u8]) -> u8 {
     let mut v = [0u64; 1];
     scenario::values(text, keys::MODE, &mut v);
@@ -99,6 +100,7 @@ pub struct Pair {
     pub down: u32,
 }
 
+// The end pair of a text.
 pub fn pair_of(text: &[u8]) -> Pair {
     let mut v = [0u64; 2];
     scenario::values(text, keys::ENDS, &mut v);
@@ -115,6 +117,7 @@ pub struct Three {
     pub right: u64,
 }
 
+// The three values of a key.
 pub fn three_of(text: &[u8], key: u8) -> Three {
     let mut v = [0u64; 3];
     scenario::values(text, key, &mut v);
@@ -125,6 +128,7 @@ pub fn three_of(text: &[u8], key: u8) -> Three {
     }
 }
 
+// n, or the list's length where that is less.
 pub fn within(n: usize, xs: &[u32]) -> usize
     ensures { λ r. ⌜ r ≤ n ⌝ }
     ensures { λ r. ⌜ Counts r (now (xs .entry)) ⌝ }
@@ -132,6 +136,7 @@ pub fn within(n: usize, xs: &[u32]) -> usize
     if n <= xs.len() { n } else { xs.len() }
 }
 
+// The same, of bytes.
 pub fn within_codes(n: usize, xs: &[u8]) -> usize
     ensures { λ r. ⌜ r ≤ n ⌝ }
     ensures { λ r. ⌜ Counts r (now (xs .entry)) ⌝ }
@@ -139,6 +144,7 @@ pub fn within_codes(n: usize, xs: &[u8]) -> usize
     if n <= xs.len() { n } else { xs.len() }
 }
 
+// The same, of numerators.
 pub fn within_rows(n: usize, xs: &[i64]) -> usize
     ensures { λ r. ⌜ r ≤ length (now (xs .entry)) ⌝ }
     ensures { λ r. ⌜ r ≡ length (take r (now (xs .entry))) ⌝ }

@@ -8,7 +8,9 @@ use super::say;
 use forecast::ForecastAnswer;
 use road::Road;
 
-// The room of a cell's shades: one for each step and one for the start.
+// The most cells, and the room of a cell's shades: one for each step and one for the start.
+const CELLS: usize = Road::CELLS as usize;
+
 const STEPS: usize = Road::HORIZON as usize + 1;
 
 // The pixels that the picture comes to about, where blocks of whole pixels allow it.
@@ -18,7 +20,7 @@ const HIGH: u32 = 512;
 
 // One cell's shade at one step, where there is room.
 fn put(shades: &mut [u8], cell: usize, step: usize, shade: u8) {
-    if cell < 256 {
+    if cell < CELLS {
         if step < STEPS {
             let at = cell * STEPS + step;
             if at < shades.len() {
@@ -146,7 +148,7 @@ fn drawn_cell(fd: i32, shades: &[u8], s: Sizes) -> bool {
 // The rows of cell i, counted from 0.
 fn drawn(fd: i32, shades: &[u8], i: usize, s: Sizes) -> bool {
     let columns = s.columns;
-    if 256 <= i {
+    if CELLS <= i {
         return false;
     }
     if STEPS < columns {

@@ -2,22 +2,27 @@
 use libc::STDERR_FILENO;
 use libc::STDOUT_FILENO;
 
+// A text to a descriptor.
 pub fn to(fd: i32, s: &[u8]) {
     io::write_all(fd, s);
 }
 
+// A number to a descriptor.
 pub fn number_to(fd: i32, n: u64) {
     io::print_decimal(fd, n);
 }
 
+// A text to standard output.
 pub fn text(s: &[u8]) {
     to(STDOUT_FILENO, s);
 }
 
+// A number to standard output.
 pub fn number(n: u64) {
     number_to(STDOUT_FILENO, n);
 }
 
+// A number of 32 bits to standard output.
 pub fn small(n: u32) {
     number(n as u64);
 }
@@ -54,6 +59,7 @@ fn size(n: i64) -> u64 {
     }
 }
 
+// A number with its sign to standard output.
 pub fn signed(n: i64) {
     if n < 0 {
         text(b"-");

@@ -37,6 +37,7 @@ fn asked() {
     say::text(b"  end                the last keyword\n");
 }
 
+// What --help prints.
 pub fn print() {
     synopsis();
     given();

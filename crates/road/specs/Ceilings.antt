@@ -1,4 +1,4 @@
--- The ceilings of document 01, "The road and its units". The constants of `Road` are tied to these by contract; nothing else repeats a number.
+-- The ceilings of document 01, "The road and its units". The constants of `Road` are tied to these by contract; no other crate of the library repeats them.
 use Prim.Native.Nat.{ℕ}
 
 -- cells: n from 1 to 256

@@ -15,31 +15,36 @@ impl Road {
     pub const COUNT: u32 = 40;
 }
 
-// Internal: each constant with the equation to its definition, so that a moved constant is refused here.
+// Each constant has a function with the equation to its definition, so that a moved constant is refused here.
+// Internal: the largest number of cells.
 pub fn cells_ceiling() -> u32
     ensures { λ r. ⌜ r ≡ cellsCeiling ⌝ }
 {
     Road::CELLS
 }
 
+// Internal: the largest horizon.
 pub fn horizon_ceiling() -> u32
     ensures { λ r. ⌜ r ≡ horizonCeiling ⌝ }
 {
     Road::HORIZON
 }
 
+// Internal: the largest divisor.
 pub fn divisor_ceiling() -> u32
     ensures { λ r. ⌜ r ≡ divisorCeiling ⌝ }
 {
     Road::DIVISOR
 }
 
+// Internal: the largest jam density.
 pub fn jam_ceiling() -> u32
     ensures { λ r. ⌜ r ≡ jamCeiling ⌝ }
 {
     Road::JAM
 }
 
+// Internal: the largest number of cells of a word count.
 pub fn count_ceiling() -> u32
     ensures { λ r. ⌜ r ≡ countCeiling ⌝ }
 {

@@ -17,6 +17,7 @@ fn count(cells: u32) {
     say::text(b"\n");
 }
 
+// The counts of the worked cases, the ceiling, and one beyond it.
 pub fn cases() {
     count(0);
     count(1);

@@ -33,6 +33,7 @@ fn show(
     say::text(b"\n");
 }
 
+// The worked cases.
 pub fn worked() {
     let a = roads::road_a();
     let mut one = [7u32; 1];
@@ -80,6 +81,7 @@ fn refused_output(name: &[u8], cells: &[u32]) {
     show(name, roads::road_a(), cells, &[100], &[0], 1, &mut out);
 }
 
+// A refusal for each number of a forecast.
 pub fn refused() {
     refused_road(b"D 0", roads::road(0, 4, 1, 1000, 200));
     refused_road(b"p 6", roads::road(5, 6, 1, 1000, 200));
@@ -135,6 +137,7 @@ fn edge(name: &[u8], r: Road, cell: u32, up: u32, down: u32, n: usize, t: usize)
     }
 }
 
+// The accepted edges, and one beyond each.
 pub fn edges() {
     let a = roads::road_a();
     edge(b"n 3, T 0", a, 300, 1000, 0, 3, 0);

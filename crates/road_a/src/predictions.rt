@@ -82,6 +82,7 @@ fn refused() {
     single(b"of a cell above J", 1001, &[2, 2], 7, b" 7");
 }
 
+// Row predictions below, at and above zero, and their refusals.
 pub fn rows() {
     worked();
     values();
@@ -148,6 +149,7 @@ fn refused_estimates() {
     show(b"right not a number", a, 1, 1000.0, 1000.0, 0.0 / 0.0, 0.0);
 }
 
+// Candidate predictions and their refusals.
 pub fn candidates() {
     numerators();
     refused_modes();

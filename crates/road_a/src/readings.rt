@@ -135,6 +135,7 @@ fn values() {
     );
 }
 
+// Readings: the worked case, the edges, refusals.
 pub fn cases() {
     shapes();
     values();
@@ -181,6 +182,7 @@ fn refused_words() {
     word(b"L L W L, an illegal pair", &[1, 1, 0, 1]);
 }
 
+// Fit tests: the own word, foreign words, refusals.
 pub fn fits() {
     held_to_words();
     refused_words();

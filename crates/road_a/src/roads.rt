@@ -58,6 +58,7 @@ fn wide() {
     );
 }
 
+// Roads that are accepted and roads that are refused.
 pub fn cases() {
     narrow();
     wide();

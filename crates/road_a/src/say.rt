@@ -2,10 +2,12 @@
 use libc::STDOUT_FILENO;
 use road::Refusal;
 
+// A text to standard output.
 pub fn text(s: &[u8]) {
     io::write_all(STDOUT_FILENO, s);
 }
 
+// A number to standard output.
 pub fn number(n: u64) {
     io::print_decimal(STDOUT_FILENO, n);
 }

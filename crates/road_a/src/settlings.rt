@@ -74,6 +74,7 @@ fn refused_pairs() {
     double(b"downstream above J", &[1000, 1000], 1000, 1001, 9);
 }
 
+// The settling runs of this file.
 pub fn cases() {
     worked();
     refused();

@@ -2,6 +2,8 @@
 use mathlib.Core.Path.{_≡_, _∙_, sym, ap, subst}
 use mathlib.Core.List.{List}
 use Prim.Native.Nat.{ℕ}
+use lib.ListN.{length}
+use Rattle.road.specs.Table.{refused}
 use Rattle.road.specs.declared.Road.{Road}
 use Rattle.road.specs.declared.refusal.Refusal.{Refusal}
 use Rattle.scheme.specs.declared.many_steps.Totals.{Totals}
@@ -11,16 +13,20 @@ use Rattle.forecast.specs.declared.forecasting.ForecastAnswer.the-variants as F
 use Rattle.forecast.specs.declared.settling.SettleAnswer.{SettleAnswer}
 use Rattle.forecast.specs.declared.settling.SettleAnswer.the-variants as S
 use Rattle.forecast.specs.Forecast as Forecast
-use Rattle.forecast.specs.Forecast.{forecastAnswer, forecastMeaning}
+use Rattle.forecast.specs.Forecast.{forecastAnswer, forecastMeaning, ForecastJudged}
 use Rattle.forecast.specs.Settle as Settle
-use Rattle.forecast.specs.Settle.{settleAnswer, settleMeaning}
+use Rattle.forecast.specs.Settle.{settleAnswer, settleMeaning, SettleJudged}
 use Rattle.welgadou.specs.Parts.{written, flagOf}
 use Rattle.welgadou.specs.Level1.{Forecasted, SettledRun}
-use Rattle.welgadou.proofs.Answers.{told, refusal-keeps}
+use Rattle.welgadou.proofs.Answers.{told, judged-told, refusal-counts, refusal-keeps}
 
 module _ {s r : Road} {cells ups downs : List ℕ} {t : ℕ} {out next : List ℕ} {a : ForecastAnswer} (here : s ≡ r) (called : Forecast.Forecasts s cells ups downs t out next a) where
   forecasts : Forecast.Forecasts r cells ups downs t out next a
   forecasts = subst (λ (x : Road). Forecast.Forecasts x cells ups downs t out next a) here called
+
+  forecast-told : {b : ForecastAnswer} → a ≡ b → ForecastJudged r cells ups downs t (length out) (refused (Forecast.meaning b .number) (Forecast.meaning b .place))
+  forecast-told e =
+      judged-told (ForecastJudged r cells ups downs t (length out)) (λ (x : ForecastAnswer). refused (Forecast.meaning x .number) (Forecast.meaning x .place)) e (forecasts .judged)
 
   pub forecast-done : {d : Totals} {entered left : ℕ} → a ≡ F.Done d → Forecasted r cells ups downs t out next entered (d .entered) left (d .left) 0 0
   forecast-done e =
@@ -31,6 +37,8 @@ module _ {s r : Road} {cells ups downs : List ℕ} {t : ℕ} {out next : List �
         output = forecasts .output;
         entered-written = ap (λ (x : Forecast.Meaning). x .entered) m;
         left-written = ap (λ (x : Forecast.Meaning). x .left) m;
+        judged = forecast-told e;
+        demand3 = λ z. forecasts .demand3 _ e;
       }
 
   pub forecast-refused : {f : Refusal} {entered left : ℕ} → a ≡ F.Refused f → Forecasted r cells ups downs t out next entered entered left left (f .place) (f .number)
@@ -39,20 +47,28 @@ module _ {s r : Road} {cells ups downs : List ℕ} {t : ℕ} {out next : List �
       let m = told Forecast.meaning e (forecasts .means) in
       let keeps : (value former : ℕ) → former ≡ written (f .number) value former =
       refusal-keeps _ (λ q. cc (sym e ∙ q)) (forecasts .answer) (ap (λ (x : Forecast.Meaning). x .number) m) in
+      let counts : f .number ≡ 0 → ⊥ =
+      refusal-counts _ (λ q. cc (sym e ∙ q)) (forecasts .answer) (ap (λ (x : Forecast.Meaning). x .number) m) in
       record {
         returned = ap (λ (x : Forecast.Meaning). x .number) m;
         placed = ap (λ (x : Forecast.Meaning). x .place) m;
         output = forecasts .output;
         entered-written = keeps _ _;
         left-written = keeps _ _;
+        judged = forecast-told e;
+        demand3 = λ z. absurd (counts z);
       }
 
 module _ {s r : Road} {cells : List ℕ} {up down t : ℕ} {out next : List ℕ} {a : SettleAnswer} (here : s ≡ r) (called : Settle.Settles s cells up down t out next a) where
   settles : Settle.Settles r cells up down t out next a
   settles = subst (λ (x : Road). Settle.Settles x cells up down t out next a) here called
 
+  settle-told : {b : SettleAnswer} → a ≡ b → SettleJudged r cells up down t (length out) (refused (Settle.meaning b .number) (Settle.meaning b .place))
+  settle-told e =
+      judged-told (SettleJudged r cells up down t (length out)) (λ (x : SettleAnswer). refused (Settle.meaning x .number) (Settle.meaning x .place)) e (settles .judged)
+
   pub settle-done : {d : Settled} {settled steps flag : ℕ} → a ≡ S.Done d → flag ≡ flagOf (d .settled) → SettledRun r cells up down t out next settled flag steps (d .steps) 0 0
-  settle-done e q =
+  settle-done {d} e q =
       let m = told Settle.meaning e (settles .means) in
       record {
         returned = ap (λ (x : Settle.Meaning). x .number) m;
@@ -60,6 +76,8 @@ module _ {s r : Road} {cells : List ℕ} {up down t : ℕ} {out next : List ℕ}
         output = settles .output;
         settled-written = q ∙ ap (λ (x : Settle.Meaning). flagOf (x .settled)) m;
         steps-written = ap (λ (x : Settle.Meaning). x .steps) m;
+        judged = settle-told e;
+        settlement = λ z. (d .settled, q, settles .settlement d e);
       }
 
   pub settle-refused : {f : Refusal} {settled steps : ℕ} → a ≡ S.Refused f → SettledRun r cells up down t out next settled settled steps steps (f .place) (f .number)
@@ -68,10 +86,14 @@ module _ {s r : Road} {cells : List ℕ} {up down t : ℕ} {out next : List ℕ}
       let m = told Settle.meaning e (settles .means) in
       let keeps : (value former : ℕ) → former ≡ written (f .number) value former =
       refusal-keeps _ (λ q. cc (sym e ∙ q)) (settles .answer) (ap (λ (x : Settle.Meaning). x .number) m) in
+      let counts : f .number ≡ 0 → ⊥ =
+      refusal-counts _ (λ q. cc (sym e ∙ q)) (settles .answer) (ap (λ (x : Settle.Meaning). x .number) m) in
       record {
         returned = ap (λ (x : Settle.Meaning). x .number) m;
         placed = ap (λ (x : Settle.Meaning). x .place) m;
         output = settles .output;
         settled-written = keeps _ _;
         steps-written = keeps _ _;
+        judged = settle-told e;
+        settlement = λ z. absurd (counts z);
       }

@@ -4,6 +4,8 @@ use mathlib.Core.List.{List}
 use Prim.Native.Nat.{ℕ}
 use lib.IntN.{ℤ}
 use lib.Ieee.{Float}
+use lib.ListN.{length}
+use Rattle.road.specs.Table.{refused}
 use Rattle.road.specs.declared.Road.{Road}
 use Rattle.road.specs.declared.refusal.Refusal.{Refusal}
 use Rattle.modes.specs.declared.reading.ReadAnswer.{ReadAnswer}
@@ -20,21 +22,25 @@ use Rattle.modes.specs.declared.candidates.CandidateAnswer.the-variants as C
 use Rattle.modes.specs.declared.counting.WordCount.{WordCount}
 use Rattle.modes.specs.declared.counting.CountAnswer.{CountAnswer}
 use Rattle.modes.specs.declared.counting.CountAnswer.the-variants as W
-use Rattle.modes.specs.Reading.{readNumber, readPlace, readAnswer, Reads}
+use Rattle.modes.specs.Reading.{readNumber, readPlace, readAnswer, ReadJudged, Reads}
 use Rattle.modes.specs.Fit as Fit
-use Rattle.modes.specs.Fit.{fitAnswer, fitMeaning}
-use Rattle.modes.specs.Prediction.{predictNumber, predictPlace, Predicts}
+use Rattle.modes.specs.Fit.{fitAnswer, fitMeaning, FitJudged}
+use Rattle.modes.specs.Prediction.{predictNumber, predictPlace, PredictJudged, Predicts}
 use Rattle.modes.specs.Candidate as Candidate
-use Rattle.modes.specs.Candidate.{candidateAnswer, candidateMeaning}
+use Rattle.modes.specs.Candidate.{candidateAnswer, candidateMeaning, CandidateJudged}
 use Rattle.modes.specs.Count as Count
-use Rattle.modes.specs.Count.{countAnswer, countMeaning}
+use Rattle.modes.specs.Count.{countAnswer, countMeaning, CountJudged}
 use Rattle.welgadou.specs.Parts.{written, flagOf}
 use Rattle.welgadou.specs.Level2.{StateRead, WordFitted, RowsPredicted, CandidatePredicted, WordsCounted}
-use Rattle.welgadou.proofs.Answers.{told, refusal-keeps}
+use Rattle.welgadou.proofs.Answers.{told, judged-told, refusal-keeps}
 
 module _ {s r : Road} {cells : List ℕ} {up down : ℕ} {letters letters-next modes modes-next : List ℕ} {a : StateReading} (here : s ≡ r) (called : Reads s cells up down letters letters-next modes modes-next a) where
   reads : Reads r cells up down letters letters-next modes modes-next a
   reads = subst (λ (x : Road). Reads x cells up down letters letters-next modes modes-next a) here called
+
+  read-told : {b : ReadAnswer} → a .answer ≡ b → ReadJudged r cells up down (length letters) (length modes) (refused (readNumber b) (readPlace b))
+  read-told e =
+      judged-told (ReadJudged r cells up down (length letters) (length modes)) (λ (x : ReadAnswer). refused (readNumber x) (readPlace x)) e (reads .judged)
 
   pub read-done : {counts : List ℕ} {queued : ℕ} → a .answer ≡ R.Done
       → StateRead r cells up down letters letters-next modes modes-next counts (a .counts .modes) queued (a .counts .queued) 0 0
@@ -45,6 +51,7 @@ module _ {s r : Road} {cells : List ℕ} {up down : ℕ} {letters letters-next m
     modes-written = reads .modes-written;
     counts-written = ap (λ (x : StateReading). x .counts .modes) (reads .answer);
     queued-written = ap (λ (x : StateReading). x .counts .queued) (reads .answer);
+    judged = read-told e;
   }
 
   pub read-refused : {f : Refusal} {counts : List ℕ} {queued : ℕ} → a .answer ≡ R.Refused f
@@ -61,11 +68,15 @@ module _ {s r : Road} {cells : List ℕ} {up down : ℕ} {letters letters-next m
         modes-written = reads .modes-written;
         counts-written = keeps (List ℕ) _ _;
         queued-written = keeps ℕ _ _;
+        judged = read-told e;
       }
 
 module _ {s r : Road} {cells : List ℕ} {up down : ℕ} {word : List ℕ} {a : FitAnswer} (here : s ≡ r) (called : Fit.Fits s cells up down word a) where
   fits : Fit.Fits r cells up down word a
   fits = subst (λ (x : Road). Fit.Fits x cells up down word a) here called
+
+  fit-told : {b : FitAnswer} → a ≡ b → FitJudged r cells up down word (refused (Fit.meaning b .number) (Fit.meaning b .place))
+  fit-told e = judged-told (FitJudged r cells up down word) (λ (x : FitAnswer). refused (Fit.meaning x .number) (Fit.meaning x .place)) e (fits .judged)
 
   pub fit-done : {d : FitResult} {holds face flag : ℕ} → a ≡ F.Done d → flag ≡ flagOf (d .holds) → WordFitted r cells up down word holds flag face (d .face) 0 0
   fit-done e q =
@@ -75,6 +86,7 @@ module _ {s r : Road} {cells : List ℕ} {up down : ℕ} {word : List ℕ} {a : 
         placed = ap (λ (x : Fit.Meaning). x .place) m;
         holds-written = q ∙ ap (λ (x : Fit.Meaning). flagOf (x .holds)) m;
         face-written = ap (λ (x : Fit.Meaning). x .face) m;
+        judged = fit-told e;
       }
 
   pub fit-refused : {f : Refusal} {holds face : ℕ} → a ≡ F.Refused f → WordFitted r cells up down word holds holds face face (f .place) (f .number)
@@ -88,22 +100,27 @@ module _ {s r : Road} {cells : List ℕ} {up down : ℕ} {word : List ℕ} {a : 
         placed = ap (λ (x : Fit.Meaning). x .place) m;
         holds-written = keeps _ _;
         face-written = keeps _ _;
+        judged = fit-told e;
       }
 
 -- the rows go through a list alone, so that one lemma serves both answers
 pub rows-answered : {s r : Road} {cells : List ℕ} {up down : ℕ} {word : List ℕ} {out next : List ℤ} {a : PredictAnswer} → s ≡ r → Predicts s cells up down word out next a
     → (b : PredictAnswer) → a ≡ b → RowsPredicted r cells up down word out next (predictPlace b) (predictNumber b)
-rows-answered {cells = cells} {up = up} {down = down} {word = word} {out = out} {next = next} {a = a} here called b e =
+rows-answered {r = r} {cells = cells} {up = up} {down = down} {word = word} {out = out} {next = next} {a = a} here called b e =
     let p = subst (λ (x : Road). Predicts x cells up down word out next a) here called in
     record {
       returned = told predictNumber e (p .number);
       placed = told predictPlace e (p .place);
       output = p .output;
+      judged = judged-told (PredictJudged r cells up down word (length out)) (λ (x : PredictAnswer). refused (predictNumber x) (predictPlace x)) e (p .judged);
     }
 
 module _ {s r : Road} {mode : ℕ} {left own right : Float} {a : CandidateAnswer} (here : s ≡ r) (called : Candidate.Candidates s mode left own right a) where
   candidates : Candidate.Candidates r mode left own right a
   candidates = subst (λ (x : Road). Candidate.Candidates x mode left own right a) here called
+
+  candidate-told : {b : CandidateAnswer} → a ≡ b → CandidateJudged r mode left own right (refused (Candidate.meaning b .number) (Candidate.meaning b .place))
+  candidate-told e = judged-told (CandidateJudged r mode left own right) (λ (x : CandidateAnswer). refused (Candidate.meaning x .number) (Candidate.meaning x .place)) e (candidates .judged)
 
   pub candidate-done : {d : CandidateResult} {numerator : Float} → a ≡ C.Done d → CandidatePredicted r mode left own right numerator (d .numerator) 0 0
   candidate-done e =
@@ -112,6 +129,7 @@ module _ {s r : Road} {mode : ℕ} {left own right : Float} {a : CandidateAnswer
         returned = ap (λ (x : Candidate.Meaning). x .number) m;
         placed = ap (λ (x : Candidate.Meaning). x .place) m;
         numerator-written = ap (λ (x : Candidate.Meaning). x .value) m;
+        judged = candidate-told e;
       }
 
   pub candidate-refused : {f : Refusal} {numerator : Float} → a ≡ C.Refused f → CandidatePredicted r mode left own right numerator numerator (f .place) (f .number)
@@ -123,9 +141,13 @@ module _ {s r : Road} {mode : ℕ} {left own right : Float} {a : CandidateAnswer
         returned = number;
         placed = ap (λ (x : Candidate.Meaning). x .place) m;
         numerator-written = refusal-keeps _ (λ q. cc (sym e ∙ q)) (candidates .answer) number _ _;
+        judged = candidate-told e;
       }
 
 module _ {cells : ℕ} {a : CountAnswer} (called : Count.CountsWords cells a) where
+  count-told : {b : CountAnswer} → a ≡ b → CountJudged cells (refused (Count.meaning b .number) (Count.meaning b .place))
+  count-told e = judged-told (CountJudged cells) (λ (x : CountAnswer). refused (Count.meaning x .number) (Count.meaning x .place)) e (called .judged)
+
   pub count-done : {d : WordCount} {words : ℕ} → a ≡ W.Done d → WordsCounted cells words (d .words) 0 0
   count-done e =
       let m = told Count.meaning e (called .means) in
@@ -133,6 +155,7 @@ module _ {cells : ℕ} {a : CountAnswer} (called : Count.CountsWords cells a) wh
         returned = ap (λ (x : Count.Meaning). x .number) m;
         placed = ap (λ (x : Count.Meaning). x .place) m;
         words-written = ap (λ (x : Count.Meaning). x .words) m;
+        judged = count-told e;
       }
 
   pub count-refused : {f : Refusal} {words : ℕ} → a ≡ W.Refused f → WordsCounted cells words words (f .place) (f .number)
@@ -144,4 +167,5 @@ module _ {cells : ℕ} {a : CountAnswer} (called : Count.CountsWords cells a) wh
         returned = number;
         placed = ap (λ (x : Count.Meaning). x .place) m;
         words-written = refusal-keeps _ (λ q. cc (sym e ∙ q)) (called .answer) number _ _;
+        judged = count-told e;
       }

@@ -1,11 +1,13 @@
 -- What the C calls of Level 1 promise: the number returned, and every pointer's contents, from the definitions of the calls below.
 use mathlib.Core.Path.{_≡_}
+use mathlib.Core.Bool.{Bool}
 use mathlib.Core.List.{List}
 use Prim.Native.Nat.{ℕ}
 use lib.ListN.{length}
+use Rattle.road.specs.Table.{refused}
 use Rattle.road.specs.declared.Road.{Road}
-use Rattle.forecast.specs.Forecast.{forecastMeaning, forecastCells}
-use Rattle.forecast.specs.Settle.{settleMeaning, settleOutput}
+use Rattle.forecast.specs.Forecast.{forecastMeaning, forecastCells, ForecastJudged, Demand3}
+use Rattle.forecast.specs.Settle.{settleMeaning, settleOutput, SettleJudged, Settlement}
 use Rattle.welgadou.specs.Parts.{written, flagOf}
 
 -- welgadou_forecast: the cells, the units entered and left
@@ -15,6 +17,9 @@ pub record Forecasted (r : Road) (cells ups downs : List ℕ) (t : ℕ) (out nex
   pub output : next ≡ forecastCells r cells ups downs t out
   pub entered-written : entered-next ≡ written number (forecastMeaning r cells ups downs t (length out) .entered) entered
   pub left-written : left-next ≡ written number (forecastMeaning r cells ups downs t (length out) .left) left
+  -- demands 1 and 3, of the number and place returned and of what is written
+  pub judged : ForecastJudged r cells ups downs t (length out) (refused number place)
+  pub demand3 : number ≡ 0 → Demand3 r cells ups downs t next entered-next left-next
 
 -- welgadou_settle: the state, whether it settled, the steps made
 pub record SettledRun (r : Road) (cells : List ℕ) (up down t : ℕ) (out next : List ℕ) (settled settled-next steps steps-next place number : ℕ) : Type 0 where
@@ -23,3 +28,6 @@ pub record SettledRun (r : Road) (cells : List ℕ) (up down t : ℕ) (out next 
   pub output : next ≡ settleOutput r cells up down t out
   pub settled-written : settled-next ≡ written number (flagOf (settleMeaning r cells up down t (length out) .settled)) settled
   pub steps-written : steps-next ≡ written number (settleMeaning r cells up down t (length out) .steps) steps
+  -- demand 1, and what an accepted run reports and hands back
+  pub judged : SettleJudged r cells up down t (length out) (refused number place)
+  pub settlement : number ≡ 0 → (b : Bool) × (settled-next ≡ flagOf b) × Settlement r cells up down t next (record { settled = b; steps = steps-next })

@@ -1,17 +1,19 @@
--- What the C calls of Level 2 promise: the number returned, and every pointer's contents, from the definitions of the calls below.
+-- What the C calls of Level 2 promise: the number returned, and every pointer's contents, from the definitions of the calls below, and
+-- demand 1 of the number and place (`judged`).
 use mathlib.Core.Path.{_≡_}
 use mathlib.Core.List.{List}
 use Prim.Native.Nat.{ℕ}
 use lib.IntN.{ℤ}
 use lib.ListN.{length}
 use lib.Ieee.{Float}
+use Rattle.road.specs.Table.{refused}
 use Rattle.road.specs.declared.Road.{Road}
 use Rattle.modes.specs.Judging.{readRefusal, predictRefusal}
-use Rattle.modes.specs.Reading.{readAnswer, readLetters, readModes}
-use Rattle.modes.specs.Fit.{fitMeaning}
-use Rattle.modes.specs.Prediction.{predicted}
-use Rattle.modes.specs.Candidate.{candidateMeaning}
-use Rattle.modes.specs.Count.{countMeaning}
+use Rattle.modes.specs.Reading.{readAnswer, readLetters, readModes, ReadJudged}
+use Rattle.modes.specs.Fit.{fitMeaning, FitJudged}
+use Rattle.modes.specs.Prediction.{predicted, PredictJudged}
+use Rattle.modes.specs.Candidate.{candidateMeaning, CandidateJudged}
+use Rattle.modes.specs.Count.{countMeaning, CountJudged}
 use Rattle.welgadou.specs.Parts.{written, flagOf}
 
 -- welgadou_read: the letters, the modes, the seven counts, the queued cells
@@ -22,6 +24,7 @@ pub record StateRead (r : Road) (cells : List ℕ) (up down : ℕ) (letters lett
   pub modes-written : modes-next ≡ readModes r cells up down letters modes
   pub counts-written : counts-next ≡ written number (readAnswer r cells up down (length letters) (length modes) .counts .modes) counts
   pub queued-written : queued-next ≡ written number (readAnswer r cells up down (length letters) (length modes) .counts .queued) queued
+  pub judged : ReadJudged r cells up down (length letters) (length modes) (refused number place)
 
 -- welgadou_fit: whether all faces of the word hold, the lowest that does not
 pub record WordFitted (r : Road) (cells : List ℕ) (up down : ℕ) (word : List ℕ) (holds holds-next face face-next place number : ℕ) : Type 0 where
@@ -29,21 +32,25 @@ pub record WordFitted (r : Road) (cells : List ℕ) (up down : ℕ) (word : List
   pub placed : place ≡ fitMeaning r cells up down word .place
   pub holds-written : holds-next ≡ written number (flagOf (fitMeaning r cells up down word .holds)) holds
   pub face-written : face-next ≡ written number (fitMeaning r cells up down word .face) face
+  pub judged : FitJudged r cells up down word (refused number place)
 
 -- welgadou_rows: the row numerators
 pub record RowsPredicted (r : Road) (cells : List ℕ) (up down : ℕ) (word : List ℕ) (out next : List ℤ) (place number : ℕ) : Type 0 where
   pub returned : number ≡ predictRefusal r cells up down word (length out) .number
   pub placed : place ≡ predictRefusal r cells up down word (length out) .place
   pub output : next ≡ predicted r cells up down word out
+  pub judged : PredictJudged r cells up down word (length out) (refused number place)
 
 -- welgadou_candidate: the numerator
 pub record CandidatePredicted (r : Road) (mode : ℕ) (left own right numerator numerator-next : Float) (place number : ℕ) : Type 0 where
   pub returned : number ≡ candidateMeaning r mode left own right .number
   pub placed : place ≡ candidateMeaning r mode left own right .place
   pub numerator-written : numerator-next ≡ written number (candidateMeaning r mode left own right .value) numerator
+  pub judged : CandidateJudged r mode left own right (refused number place)
 
 -- welgadou_count: the number of legal words
 pub record WordsCounted (cells words words-next place number : ℕ) : Type 0 where
   pub returned : number ≡ countMeaning cells .number
   pub placed : place ≡ countMeaning cells .place
   pub words-written : words-next ≡ written number (countMeaning cells .words) words
+  pub judged : CountJudged cells (refused number place)
