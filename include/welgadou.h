@@ -18,6 +18,8 @@
  *     cells, is at most cells x steps x (divisor - 1).
  *   - The cells that a forecast or a settling run hands back are accepted as the next one's start, on the same road,
  *     for ever.
+ *   - The estimate that a station call hands back is accepted by welgadou_candidate in each of its three places, on the
+ *     same road.
  *
  * docs/CERTIFICATE.md names the theorem behind each sentence, and what the proofs rest on.
  *
@@ -28,7 +30,8 @@
  *   - Memory that a call writes overlaps nothing else that the same call is given.
  *   - All of it stays valid, and no one else changes it, until the call has returned.
  *   - Floating point is in the state that a C program starts in: rounding to nearest, subnormal numbers kept. Only
- *     welgadou_candidate uses it. (Linking with -ffast-math may change that state.)
+ *     welgadou_candidate, welgadou_station_density, welgadou_station_flow and welgadou_station_speed use it. (Linking
+ *     with -ffast-math may change that state.)
  *
  * A list of length 0 may come with a null pointer: nothing is read or written through it. Other pointers are never null.
  * Nothing else is owed. The library keeps nothing between calls, takes no memory and calls no other library, so that
@@ -87,6 +90,11 @@
  *    13      the mode is not 1 to 7                                    0
  *    14      an estimate is not a number, below 0 or above jam         the first such: 1 left, 2 own, 3 right
  *    15      cells of a word count are above their ceiling             0
+ *    16      a station's number is not a number, below 0 or infinite,  0
+ *            or a speed beside a flow is 0
+ *    17      a station's lone speed x divisor, rounded, is not below   0
+ *            free: no single density
+ *    18      a station's estimate is below 0 or above jam              0
  *    (none)  0: accepted                                               0
  *
  * A call with one pair of ends reports 10 and 11 at place 0. The number 12 takes the lowest face with either fault.
@@ -276,6 +284,64 @@ uint32_t welgadou_candidate(uint32_t divisor, uint32_t free, uint32_t wave, uint
  * Refusals: 15.
  */
 uint32_t welgadou_count(uint32_t cells, uint64_t *words, uint32_t *place);
+
+/* ------------------------------------------------------------------------------------------------------------------
+ * Level 3: site
+ *
+ * A station is a detector on the road. It gives a density, or a flow with a speed, or a speed alone. Each kind has its
+ * call, which makes of it one estimate of the density there, for a filter:
+ *
+ *    Given            Estimate
+ *    density          density
+ *    flow and speed   flow / speed
+ *    speed            (wave x jam) / (speed x divisor + wave)
+ *
+ * in doubles, each operation rounded once, to nearest. Densities are in units a cell, flows in units a step, speeds in
+ * cells a step, fractions allowed. A given number is finite and not below 0; -0.0 counts as 0. An accepted estimate is
+ * from 0 to jam: welgadou_candidate accepts it in each of its three places, on the same road.
+ * ------------------------------------------------------------------------------------------------------------------ */
+
+/* Takes a station's density for the estimate, unchanged bit for bit.
+ *
+ * Returns:  0, or the number of the refusal.
+ * In:       divisor, free, wave, jam, critical: the road.
+ *           density:                      what the station gives, from 0 to jam.
+ * Out:      estimate:                     the density; -0.0 where it is -0.0.
+ *           place:                        0 in either case.
+ * Refusals: 1 to 4, 16, 18.
+ */
+uint32_t welgadou_station_density(uint32_t divisor, uint32_t free, uint32_t wave, uint32_t jam, uint32_t critical,
+                                  double density,
+                                  double *estimate, uint32_t *place);
+
+/* Estimates the density from a flow and the speed beside it.
+ *
+ * Returns:  0, or the number of the refusal.
+ * In:       divisor, free, wave, jam, critical: the road.
+ *           flow, speed:                  what the station gives. The speed is not 0, nor -0.0: else 16.
+ * Out:      estimate:                     flow / speed; -0.0 where the flow is -0.0.
+ *           place:                        0 in either case.
+ * Refusals: 1 to 4, 16, 18; 18 also where the quotient is too large for a double.
+ */
+uint32_t welgadou_station_flow(uint32_t divisor, uint32_t free, uint32_t wave, uint32_t jam, uint32_t critical,
+                               double flow, double speed,
+                               double *estimate, uint32_t *place);
+
+/* Estimates the density from a speed alone: the density above critical at which traffic moves so fast. Up to critical
+ * it moves at the free speed, free/divisor, whatever its density, and nowhere faster: a speed that is not below the free
+ * speed has no single density.
+ *
+ * Returns:  0, or the number of the refusal.
+ * In:       divisor, free, wave, jam, critical: the road.
+ *           speed:                        what the station gives. speed x divisor, rounded, is below free: else 17.
+ * Out:      estimate:                     (wave x jam) / (speed x divisor + wave); jam where the speed is 0. For a speed
+ *                                         just below the free speed, rounding may give critical itself.
+ *           place:                        0 in either case.
+ * Refusals: 1 to 4, 16 to 18.
+ */
+uint32_t welgadou_station_speed(uint32_t divisor, uint32_t free, uint32_t wave, uint32_t jam, uint32_t critical,
+                                double speed,
+                                double *estimate, uint32_t *place);
 
 #ifdef __cplusplus
 }

@@ -1,5 +1,5 @@
-/* A first program with Welgadou: one road, one state, every call of both levels. `tests/outside` compiles it as C99 and as C++,
- * runs it and compares what it prints with forecast.expected.
+/* A first program with Welgadou: one road, one state, every call of every level.
+ * `tests/outside` compiles it as C99 and as C++, runs it and compares what it prints with forecast.expected.
  *
  *     rt staticlib welgadou
  *     gcc -std=c99 -Iinclude examples/c/forecast.c target/staticlib/libwelgadou.a -o forecast
@@ -35,6 +35,9 @@ static const char *words(uint32_t number)
     case 13: return "there is no such mode";
     case 14: return "an estimate is not a number from 0 to the jam density; the place says which";
     case 15: return "too many cells for a word count";
+    case 16: return "a station's number is not a number, below 0 or infinite, or a speed beside a flow is 0";
+    case 17: return "a station's lone speed times the divisor, rounded, is not below free: no single density";
+    case 18: return "a station's estimate is below 0 or above the jam density";
     default: return "unknown";
     }
 }
@@ -63,7 +66,7 @@ int main(void)
     uint64_t entered, left, legal;
     uint8_t letters[CELLS + 1], modes[CELLS];
     int64_t rows[CELLS];
-    double numerator;
+    double numerator, estimate;
     uint32_t horizon;
     int i;
 
@@ -140,6 +143,20 @@ int main(void)
     if (refused("count", number, place))
         return 1;
     printf("legal words of %d cells: %" PRIu64 "\n", CELLS, legal);
+
+    /* Level 3: a station gives a density, or a flow with a speed, or a speed alone. */
+    number = welgadou_station_density(ROAD, 250.5, &estimate, &place);
+    if (refused("station density", number, place))
+        return 1;
+    printf("station estimates %.2f", estimate);
+    number = welgadou_station_flow(ROAD, 80, 0.8, &estimate, &place);
+    if (refused("station flow", number, place))
+        return 1;
+    printf(" %.2f", estimate);
+    number = welgadou_station_speed(ROAD, 0.6, &estimate, &place);
+    if (refused("station speed", number, place))
+        return 1;
+    printf(" %.2f\n", estimate);
 
     /* A refusal: D may not follow W. */
     letters[1] = WELGADOU_W;

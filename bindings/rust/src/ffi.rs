@@ -44,6 +44,18 @@ extern "C" {
         numerator: *mut f64, place: *mut u32,
     ) -> u32;
     fn welgadou_count(cells: u32, words: *mut u64, place: *mut u32) -> u32;
+    fn welgadou_station_density(
+        divisor: u32, free: u32, wave: u32, jam: u32, critical: u32, density: f64, estimate: *mut f64,
+        place: *mut u32,
+    ) -> u32;
+    fn welgadou_station_flow(
+        divisor: u32, free: u32, wave: u32, jam: u32, critical: u32, flow: f64, speed: f64, estimate: *mut f64,
+        place: *mut u32,
+    ) -> u32;
+    fn welgadou_station_speed(
+        divisor: u32, free: u32, wave: u32, jam: u32, critical: u32, speed: f64, estimate: *mut f64,
+        place: *mut u32,
+    ) -> u32;
 }
 
 /// Number 0 is an accepted call.
@@ -216,5 +228,35 @@ pub(crate) fn count(cells: u32, words: &mut u64) -> Result<(), Refusal> {
     let mut place = 0;
     // SAFETY: both pointers come from borrows of one value (see the top of this file).
     let number = unsafe { welgadou_count(cells, words, &mut place) };
+    judged(number, place)
+}
+
+pub(crate) fn station_density(r: &Road, density: f64, estimate: &mut f64) -> Result<(), Refusal> {
+    let mut place = 0;
+    // SAFETY: both pointers come from borrows of one value (see the top of this file).
+    #[rustfmt::skip]
+    let number = unsafe {
+        welgadou_station_density(r.divisor, r.free, r.wave, r.jam, r.critical, density, estimate, &mut place)
+    };
+    judged(number, place)
+}
+
+pub(crate) fn station_flow(r: &Road, flow: f64, speed: f64, estimate: &mut f64) -> Result<(), Refusal> {
+    let mut place = 0;
+    // SAFETY: both pointers come from borrows of one value (see the top of this file).
+    #[rustfmt::skip]
+    let number = unsafe {
+        welgadou_station_flow(r.divisor, r.free, r.wave, r.jam, r.critical, flow, speed, estimate, &mut place)
+    };
+    judged(number, place)
+}
+
+pub(crate) fn station_speed(r: &Road, speed: f64, estimate: &mut f64) -> Result<(), Refusal> {
+    let mut place = 0;
+    // SAFETY: both pointers come from borrows of one value (see the top of this file).
+    #[rustfmt::skip]
+    let number = unsafe {
+        welgadou_station_speed(r.divisor, r.free, r.wave, r.jam, r.critical, speed, estimate, &mut place)
+    };
     judged(number, place)
 }

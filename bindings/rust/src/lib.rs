@@ -3,7 +3,8 @@
 //! Welgadou works the triangular Godunov scheme (the cell transmission model) on whole numbers. Each call judges its
 //! input by itself and answers with a [`Refusal`], a number and a place, where it does not accept it; the slices that it
 //! would have written then keep their contents. No input panics. What is proved of the calls, and what the words unit,
-//! cell, face, letter, word and mode mean, stands in `include/welgadou.h`; this crate adds types and nothing else.
+//! cell, face, letter, word, mode and station mean, stands in `include/welgadou.h`; this crate adds types and nothing
+//! else.
 //!
 //! Build the archive with `rt staticlib welgadou`. A program outside of the repository sets `WELGADOU_LIB_DIR` to the
 //! folder in which it keeps `libwelgadou.a`.
@@ -26,11 +27,13 @@ mod ffi;
 pub mod letter;
 mod level1;
 mod level2;
+mod level3;
 mod refusal;
 mod road;
 
 pub use level1::{forecast, settle, Settlement, Totals};
 pub use level2::{candidate, count, fit, read, rows, Counts, Fit};
+pub use level3::{station, StationReading};
 pub use refusal::Refusal;
 pub use road::Road;
 

@@ -40,6 +40,9 @@ fn words(number: u32) -> (&'static str, &'static str) {
         13 => ("place", "the mode is not 1 to 7"),
         14 => ("estimate", "an estimate is not a number, is below 0 or is above the jam density"),
         15 => ("place", "the cells of a word count are above their ceiling"),
+        16 => ("place", "a station's number is not a number, below 0 or infinite, or a speed beside a flow is 0"),
+        17 => ("place", "a station's lone speed times the divisor, rounded, is not below free: no single density"),
+        18 => ("place", "a station's estimate is below 0 or above the jam density"),
         _ => ("place", "the refusal table has no such number"),
     }
 }

@@ -1,2 +1,3 @@
--- The starred cases of document 01, shown.
+-- The starred cases of document 01 and the values of document 02, shown.
 pub mod Starred
+pub mod Requests

@@ -1,1 +1,2 @@
-// No code: the starred cases of document 01, "Road A at its edges", as one theorem about the definitions of all levels.
+// No code: the starred cases of document 01, "Road A at its edges", and the values of document 02, each as one theorem
+// about the definitions of all levels.

@@ -9,6 +9,7 @@ use super::options::Options;
 use super::readings;
 use super::rows;
 use super::settlings;
+use super::stations;
 
 fn forecast(o: Options, text: &[u8]) {
     if is_given(text, keys::FORECAST) {
@@ -52,6 +53,12 @@ fn count(o: Options, text: &[u8]) {
     }
 }
 
+fn station(o: Options, text: &[u8]) {
+    if is_given(text, keys::STATION) {
+        stations::act(o.lines, text);
+    }
+}
+
 // All actions that the text asks for.
 pub fn all(o: Options, text: &[u8]) {
     forecast(o, text);
@@ -61,4 +68,5 @@ pub fn all(o: Options, text: &[u8]) {
     predict(o, text);
     candidate(o, text);
     count(o, text);
+    station(o, text);
 }

@@ -1,9 +1,9 @@
 // The candidate prediction.
+use super::doubles;
 use super::keys;
 use super::numbers;
 use super::refusals;
 use super::say;
-use libc::STDOUT_FILENO;
 use modes::CandidateAnswer;
 use road::Road;
 
@@ -23,14 +23,6 @@ fn of_bits(n: u64) -> f64 {
         return 0.0 / 0.0;
     }
     f64::from_bits(n)
-}
-
-// The 64 bits of a double that is a number. No numerator is anything else.
-fn bits(x: f64) -> u64 {
-    if x != x {
-        return 9221120237041090560;
-    }
-    f64::to_bits(x)
 }
 
 // Estimates that are whole decimals.
@@ -61,43 +53,15 @@ fn estimated(text: &[u8]) -> Estimates {
     }
 }
 
-// What stands before a whole numerator.
-fn before_whole(lines: bool) {
-    if lines {
-        say::text(b" ");
-    } else {
-        say::text(b"\n  numerator ");
-    }
-}
-
-// The numerator in decimals where it is whole.
-fn decimals(lines: bool, x: f64) {
-    if x >= -9223372036854775808.0 {
-        if x < 9223372036854775808.0 {
-            let n = std::num::truncating_f64_to_i64(x);
-            if std::num::nearest_i64_to_f64(n) == x {
-                before_whole(lines);
-                say::signed(n);
-            }
-        }
-    }
-}
-
 fn report(lines: bool, mode: u8, x: f64) {
     if lines {
         say::text(b"done candidate ");
-        say::number(bits(x));
     } else {
         say::text(b"candidate of mode ");
         say::number(mode as u64);
-        say::text(b"\n  bits of the numerator ");
-        say::number(bits(x));
-        say::text(b" (hexadecimal ");
-        io::print_hex(STDOUT_FILENO, bits(x), 16);
-        say::text(b")");
+        say::text(b"\n");
     }
-    decimals(lines, x);
-    say::text(b"\n");
+    doubles::print(lines, b"numerator", x);
 }
 
 fn made(lines: bool, road: Road, mode: u8, e: Estimates) {

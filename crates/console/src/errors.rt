@@ -48,6 +48,7 @@ fn arity(fd: i32, key: u8) {
         0 => say::to(fd, b"5 numbers (D p q J C) after "),
         1 | 2 | 3 | 6 => say::to(fd, b"1 or more values after "),
         4 => say::to(fd, b"2 numbers (upstream downstream) after "),
+        18 | 19 | 20 => say::to(fd, b"2 numbers (A B, for A / B) after "),
         5 | 7 | 16 => say::to(fd, b"1 number after "),
         8 | 9 => say::to(fd, b"3 numbers (left own right) after "),
         _ => say::to(fd, b"nothing after "),
@@ -121,33 +122,62 @@ pub fn needs(lines: bool, text: &[u8], action: u8, needed: &[u8]) {
     say::to(fd, b"\n");
 }
 
+// A message on the first line of a key.
+fn at(lines: bool, text: &[u8], key: u8, message: &[u8]) {
+    let fd = say::errors_to(lines);
+    start(fd, scenario::line_of(text, key) as u64);
+    say::to(fd, message);
+}
+
 // A candidate with both lines of estimates, or with neither.
 pub fn estimates(lines: bool, text: &[u8], both: bool) {
-    let fd = say::errors_to(lines);
-    start(fd, scenario::line_of(text, keys::CANDIDATE) as u64);
     if both {
-        say::to(fd, b"candidate takes estimates or bits, not both\n");
+        at(
+            lines,
+            text,
+            keys::CANDIDATE,
+            b"candidate takes estimates or bits, not both\n",
+        );
     } else {
-        say::to(fd, b"candidate needs estimates or bits\n");
+        at(
+            lines,
+            text,
+            keys::CANDIDATE,
+            b"candidate needs estimates or bits\n",
+        );
     }
 }
 
-fn at_end(lines: bool, text: &[u8], message: &[u8]) {
-    let fd = say::errors_to(lines);
-    start(fd, scenario::line_of(text, keys::END) as u64);
-    say::to(fd, message);
+// A station with a density and more, or with no reading.
+pub fn reading(lines: bool, text: &[u8], more: bool) {
+    if more {
+        at(
+            lines,
+            text,
+            keys::STATION,
+            b"station takes density, or flow and speed, or speed alone\n",
+        );
+    } else {
+        at(
+            lines,
+            text,
+            keys::STATION,
+            b"station needs density, or flow and speed, or speed\n",
+        );
+    }
 }
 
 // A text without an action.
 pub fn asks_nothing(lines: bool, text: &[u8]) {
-    at_end(
+    at(
         lines,
         text,
-        b"expected an action: forecast, settle, read, fit, rows, candidate or count\n",
+        keys::END,
+        b"expected an action: forecast, settle, read, fit, rows, candidate, count or station\n",
     );
 }
 
 // A picture asked for without a forecast.
 pub fn picture(lines: bool, text: &[u8]) {
-    at_end(lines, text, b"--picture needs forecast\n");
+    at(lines, text, keys::END, b"--picture needs forecast\n");
 }

@@ -37,12 +37,22 @@ pub const COUNT: u8 = 16;
 
 pub const END: u8 = 17;
 
+pub const DENSITY: u8 = 18;
+
+pub const FLOW: u8 = 19;
+
+pub const SPEED: u8 = 20;
+
+pub const STATION: u8 = 21;
+
 // A key's name, to a descriptor.
 pub fn name(fd: i32, key: u8) {
     if key < FORECAST {
         given(fd, key);
-    } else {
+    } else if key <= END {
         asked(fd, key);
+    } else {
+        of_site(fd, key);
     }
 }
 
@@ -71,6 +81,16 @@ fn asked(fd: i32, key: u8) {
         15 => say::to(fd, b"candidate"),
         16 => say::to(fd, b"count"),
         _ => say::to(fd, b"end"),
+    }
+}
+
+// The keys of Level 3.
+fn of_site(fd: i32, key: u8) {
+    match key {
+        18 => say::to(fd, b"density"),
+        19 => say::to(fd, b"flow"),
+        20 => say::to(fd, b"speed"),
+        _ => say::to(fd, b"station"),
     }
 }
 

@@ -3,6 +3,7 @@ mod actions;
 mod buffers;
 mod candidates;
 mod counts;
+mod doubles;
 mod errors;
 mod fits;
 mod forecasts;
@@ -18,6 +19,7 @@ mod refusals;
 mod rows;
 mod say;
 mod settlings;
+mod stations;
 mod usage;
 
 use options::Options;

@@ -76,6 +76,33 @@ fn candidate(o: Options, text: &[u8]) -> bool {
     estimates(o, text)
 }
 
+// Whether the reading is a density alone, a flow and a speed, or a speed alone.
+fn is_reading(text: &[u8]) -> bool {
+    if is_given(text, keys::DENSITY) {
+        !some(text, &[keys::FLOW, keys::SPEED], true)
+    } else {
+        is_given(text, keys::SPEED)
+    }
+}
+
+fn reading(o: Options, text: &[u8]) -> bool {
+    if !is_given(text, keys::STATION) {
+        return true;
+    }
+    if is_reading(text) {
+        return true;
+    }
+    errors::reading(o.lines, text, is_given(text, keys::DENSITY));
+    false
+}
+
+fn station(o: Options, text: &[u8]) -> bool {
+    if !has(o, text, keys::STATION, &[keys::ROAD]) {
+        return false;
+    }
+    reading(o, text)
+}
+
 fn settle(o: Options, text: &[u8]) -> bool {
     has(
         o,
@@ -109,6 +136,7 @@ fn asks(o: Options, text: &[u8]) -> bool {
         keys::ROWS,
         keys::CANDIDATE,
         keys::COUNT,
+        keys::STATION,
     ];
     if some(text, &actions, true) {
         return true;
@@ -160,5 +188,8 @@ pub fn met(o: Options, text: &[u8]) -> bool {
     if !level1(o, text) {
         return false;
     }
-    level2(o, text)
+    if !level2(o, text) {
+        return false;
+    }
+    station(o, text)
 }

@@ -110,6 +110,14 @@ pub fn pair_of(text: &[u8]) -> Pair {
     }
 }
 
+// A key of two numbers A and B, as the double nearest to A / B: both are doubles themselves, so that the division alone rounds.
+// Where B is 0 it is infinite or not a number, which the library refuses.
+pub fn quotient(text: &[u8], key: u8) -> f64 {
+    let mut v = [0u64; 2];
+    scenario::values(text, key, &mut v);
+    narrow(v[0]) as f64 / narrow(v[1]) as f64
+}
+
 // The three numbers of an estimate line.
 pub struct Three {
     pub left: u64,

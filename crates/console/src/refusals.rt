@@ -94,6 +94,19 @@ fn of_rest(f: Refusal) {
     }
 }
 
+// A station's reading, or what comes of it.
+fn of_reading(number: u32) {
+    if number == 16 {
+        say::text(
+            b"a station's number is not a number, below 0 or infinite, or a speed beside a flow is 0",
+        );
+    } else if number == 17 {
+        say::text(b"a station's lone speed times D, rounded, is not below p: no single density");
+    } else {
+        say::text(b"a station's estimate is not from 0 to the jam density");
+    }
+}
+
 fn meaning(action: u8, f: Refusal, cells: usize) {
     if f.number < 5 {
         of_road(f.number);
@@ -103,8 +116,10 @@ fn meaning(action: u8, f: Refusal, cells: usize) {
         of_values(action, f);
     } else if f.number == 12 {
         of_word(f.place, cells);
-    } else {
+    } else if f.number < 16 {
         of_rest(f);
+    } else {
+        of_reading(f.number);
     }
 }
 

@@ -50,7 +50,7 @@ pub fn column(n: u64, width: usize) {
 }
 
 // How far a number is from 0.
-fn size(n: i64) -> u64 {
+pub fn size(n: i64) -> u64 {
     if n >= 0 {
         n as u64
     } else {

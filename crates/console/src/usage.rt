@@ -23,7 +23,10 @@ fn given() {
     say::text(b"  word X ..          letters W, L, D or codes 0, 1, 2, face 0 first; joined\n");
     say::text(b"  mode M             1 to 7\n");
     say::text(b"  estimates L O R    left, own and right, whole\n");
-    say::text(b"  bits L O R         the same, each as the 64 bits of a double\n\n");
+    say::text(b"  bits L O R         the same, each as the 64 bits of a double\n");
+    say::text(b"  density A B        a station's density, A / B\n");
+    say::text(b"  flow A B           its flow in units a step, A / B\n");
+    say::text(b"  speed A B          its speed in cells a step, A / B\n\n");
 }
 
 fn asked() {
@@ -34,6 +37,7 @@ fn asked() {
     say::text(b"  rows               needs road cells pair word\n");
     say::text(b"  candidate          needs road mode, and estimates or bits\n");
     say::text(b"  count N            legal words for N cells\n");
+    say::text(b"  station            needs road, and density, or flow and speed, or speed\n");
     say::text(b"  end                the last keyword\n");
 }
 

@@ -1,4 +1,4 @@
--- The theorems of whole numbers in floats: rounding, products, sums, order, and a row of them.
+-- The theorems of whole numbers in floats: rounding, products, sums, order, and a row of them; and which floats are numbers.
 pub mod Signs
 pub mod Terms
 pub mod Value
@@ -9,3 +9,4 @@ pub mod Sum
 pub mod Order
 pub mod Within
 pub mod Row
+pub mod Known

@@ -1,1 +1,1 @@
-// Floats that are whole numbers: theorems only.
+// Floats that are whole numbers, and floats that are numbers: theorems only.

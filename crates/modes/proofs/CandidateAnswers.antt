@@ -35,14 +35,14 @@ use Rattle.modes.proofs.Sizes.{largest, row-small}
 use Rattle.modes.proofs.Coefficients.{left-small, own-small, right-small, constant-small, row-split}
 
 -- an estimate that the tests let through
-passes-of : (j : ℕ) (x : Float) → C.badEstimate j x ≡ false → Passes binary64 j x
+pub passes-of : (j : ℕ) (x : Float) → C.badEstimate j x ≡ false → Passes binary64 j x
 passes-of j x e =
     let low = lt x (ofBits binary64 0) in
     let high = lt (ofInt binary64 (pos j)) x in
     let rest = or-right (ne x x) (or low high) e in
     record { known = or-left (ne x x) (or low high) e; low = or-left low high rest; high = or-right low high rest }
 
-of-passes : (j : ℕ) (x : Float) → Passes binary64 j x → C.badEstimate j x ≡ false
+pub of-passes : (j : ℕ) (x : Float) → Passes binary64 j x → C.badEstimate j x ≡ false
 of-passes j x p =
     neither (ne x x) (or (lt x (ofBits binary64 0)) (lt (ofInt binary64 (pos j)) x)) (p .known)
     (neither (lt x (ofBits binary64 0)) (lt (ofInt binary64 (pos j)) x) (p .low) (p .high))

@@ -60,8 +60,9 @@ impl CandidateRow {
     }
 }
 
-// Internal: 14, an estimate that is not a number, below 0 or above J. The sign of a zero does not count.
-fn bad_estimate(jam: u32, x: f64) -> bool
+// Internal: 14, an estimate that is not a number, below 0 or above J; a station's 18 is the same test. The sign of a zero
+// does not count.
+pub fn bad_estimate(jam: u32, x: f64) -> bool
     ensures { λ b. ⌜ b ≡ badEstimate jam x ⌝ }
 {
     if x != x {

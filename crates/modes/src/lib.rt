@@ -13,6 +13,7 @@ mod writing;
 
 pub use candidates::CandidateAnswer;
 pub use candidates::CandidateResult;
+pub use candidates::bad_estimate;
 pub use candidates::candidate;
 pub use counting::CountAnswer;
 pub use counting::WordCount;

@@ -6,10 +6,10 @@ use mathlib.Core.List.{List, [], _∷_, _++_}
 use Prim.Native.Nat.{ℕ, zero, suc, _≤_, _<_, zero-le, suc-le-suc}
 use native.Mathlib.Nat.{le-of-suc-le-suc, not-suc-le-zero, eq-zero-or-pos}
 use native.Mathlib.Omega.{arith}
-use lib.Dec.{T, ltb, ltb→lt}
+use lib.Dec.{T, eqb, eqb→eq, ltb, ltb→lt}
 use lib.ListN.{length, getD}
 use borrow.Author.Tests.{ne-eqb}
-use Rattle.road.specs.Choice.{both}
+use Rattle.road.specs.Choice.{pick, both}
 use Rattle.road.specs.Table.{refused, passed, orIf, Row, row, judgeBelow, judge, rising, Applies, Lowest, Judged}
 use Rattle.road.specs.declared.refusal.Refusal.{Refusal}
 
@@ -216,3 +216,29 @@ pub judged-rows : (rows : List Row) → T (rising 0 rows) → {Checked : Type 0}
     → (judge rows .number ≡ 0 → Checked) → (Checked → judge rows ≡ passed) → Judged rows Checked Placed (judge rows)
 judged-rows rows t Placed placed of passes =
     record { lowest = the-rule rows t; placed = placed; accepted = of; no-other = λ c. ap (λ (f : Refusal). f .number) (passes c) }
+
+-- every row reports place 0
+abbrev pub placeless : List Row → Bool
+placeless [] = true
+placeless (r ∷ rs) = both (eqb (r .place) 0) (placeless rs)
+
+row-placeless : (f : Refusal) (c : Bool) (n p : ℕ) → f .place ≡ 0 → p ≡ 0 → orIf f c n p .place ≡ 0
+unfolding orIf
+row-placeless f c n p e q = by-tests (eqb (f .number) 0) c
+  where
+    by-tests : (none holds : Bool) → pick none (pick holds (refused n p) f) f .place ≡ 0
+    by-tests true true = q
+    by-tests true false = e
+    by-tests false holds = e
+
+placeless-below : (f : Refusal) (rows : List Row) → f .place ≡ 0 → T (placeless rows) → judgeBelow f rows .place ≡ 0
+placeless-below f [] e t = e
+placeless-below f (r ∷ rs) e t =
+    let q = eqb→eq (r .place) 0 (both-left (eqb (r .place) 0) (placeless rs) t) in
+    placeless-below (orIf f (r .condition) (r .number) (r .place)) rs
+    (row-placeless f (r .condition) (r .number) (r .place) e q)
+    (both-right (eqb (r .place) 0) (placeless rs) t)
+
+-- then so does the table
+pub no-place : (rows : List Row) → T (placeless rows) → judge rows .place ≡ 0
+no-place rows t = placeless-below passed rows refl t

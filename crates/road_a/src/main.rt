@@ -1,4 +1,4 @@
-// The worked cases of document 01, run: one line a case, compared by the gate.
+// The worked cases of documents 01 and 02, run: one line a case, compared by the gate.
 mod buffers;
 mod counts;
 mod forecasts;
@@ -7,6 +7,7 @@ mod readings;
 mod roads;
 mod say;
 mod settlings;
+mod stations;
 
 fn main() {
     roads::cases();
@@ -19,4 +20,5 @@ fn main() {
     predictions::rows();
     predictions::candidates();
     counts::cases();
+    stations::cases();
 }

@@ -12,6 +12,16 @@ pub fn number(n: u64) {
     io::print_decimal(STDOUT_FILENO, n);
 }
 
+// The 64 bits of a double in hexadecimal; any NaN is told as such.
+pub fn bits(x: f64) {
+    if x != x {
+        text(b"not a number");
+        return;
+    }
+    text(b"0x");
+    io::print_hex(STDOUT_FILENO, f64::to_bits(x), 16);
+}
+
 // A refusal's number and place, or that nothing was refused.
 pub fn refusal(f: Refusal) {
     if f.number == 0 {

@@ -151,7 +151,7 @@ module _ (line : List ℕ) where
             },
           )
 
--- a line's key is at most 19
+-- no line's key is above that of a line without words
 pub key-small : (ws : List (List ℕ)) → keyOf ws ≤ noKey
 unfolding keyOf
 key-small [] = omega arith

@@ -12,7 +12,7 @@ use lib.Seq.{drop-nil}
 use borrow.Author.Tests.{eq-eqb, ne-eqb}
 use Rattle.road.specs.Choice.{both}
 use Rattle.road.proofs.Table.{both-left, both-right}
-use Rattle.scenario.specs.Keys.{names, isName, placeIn, keyCode}
+use Rattle.scenario.specs.Keys.{keyCount, names, isName, placeIn, keyCode, unknownKey}
 use Rattle.scenario.proofs.Search.{until, until-bound, Searching}
 
 -- a word and a name from a letter on: that letter, then the rest; after the word's end a blank
@@ -78,11 +78,11 @@ tens-at [] t k h = absurd (not-suc-le-zero h)
 tens-at (n ∷ ns) t zero h = eqb→eq (length n) 10 (both-left (eqb (length n) 10) (tens ns) t)
 tens-at (n ∷ ns) t (suc k) h = tens-at ns (both-right (eqb (length n) 10) (tens ns) t) k (le-of-suc-le-suc h)
 
-pub name-length : (k : ℕ) → k < 18 → length (getD names k []) ≡ 10
+pub name-length : (k : ℕ) → k < keyCount → length (getD names k []) ≡ 10
 unfolding names tens
 name-length k h = tens-at names tt k h
 
-pub names-length : length names ≡ 18
+pub names-length : length names ≡ keyCount
 unfolding names
 names-length = refl
 
@@ -92,7 +92,7 @@ unfolding until placeIn
 place-until word [] = refl
 place-until word (n ∷ ns) = rw (place-until word ns)
 
-pub key-bound : (word : List ℕ) → keyCode word ≤ 18
+pub key-bound : (word : List ℕ) → keyCode word ≤ unknownKey
 unfolding keyCode names
 key-bound word = rw (place-until word names) at (until-bound (isName word) names)
 

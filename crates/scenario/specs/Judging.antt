@@ -1,12 +1,12 @@
 -- The judgement of a text: the first thing wrong with it, and its line.
 use mathlib.Core.Bool.{Bool, true, false, not}
 use mathlib.Core.List.{List, [], _∷_}
-use Prim.Native.Nat.{ℕ, suc}
+use Prim.Native.Nat.{ℕ, suc, _+_}
 use lib.Dec.{eqb, ltb}
-use lib.ListN.{length, getD, set}
+use lib.ListN.{length, getD, set, replicate}
 use Rattle.road.specs.Choice.{pick}
 use Rattle.scenario.specs.Pieces.{lines, words}
-use Rattle.scenario.specs.Keys.{keyCode, keyOf, isList, arity, unknownKey, noKey, endKey}
+use Rattle.scenario.specs.Keys.{keyCount, keyCode, keyOf, isList, arity, unknownKey, noKey, endKey}
 use Rattle.scenario.specs.Values.{itemOf}
 use Rattle.scenario.specs.declared.judging.Verdict.{Verdict}
 use Rattle.scenario.specs.declared.judging.Progress.{Progress}
@@ -68,11 +68,10 @@ atStart = record {
   what = 0;
   line = 0;
   key = noKey;
-  seen = false ∷ false ∷ false ∷ false ∷ false ∷ false ∷ false ∷ false ∷ false ∷ false
-      ∷ false ∷ false ∷ false ∷ false ∷ false ∷ false ∷ false ∷ false ∷ false ∷ false ∷ [];
+  seen = replicate (keyCount + 2) false;
 }
 
--- the key that a verdict names: 18 where a line has none or an unknown one
+-- the key that a verdict names: unknown also where a line has none
 abbrev pub toldKey : ℕ → ℕ
 toldKey key = pick (eqb key noKey) unknownKey key
 

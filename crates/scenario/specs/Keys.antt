@@ -1,9 +1,14 @@
 -- Keys: the keywords of a scenario, how many values each takes, and how large they may be.
 use mathlib.Core.Bool.{Bool, true, false}
 use mathlib.Core.List.{List, [], _∷_}
-use Prim.Native.Nat.{ℕ, suc}
+use Prim.Native.Nat.{ℕ, suc, _+_}
 use lib.Dec.{eqb, leb}
+use lib.ListN.{getD}
 use Rattle.road.specs.Choice.{pick, or, both}
+
+-- how many keywords there are
+abbrev pub keyCount : ℕ
+keyCount = 22
 
 -- the keywords in ASCII, padded with blanks to ten letters; a key's code is its place, from 0
 unfoldable pub names : List (List ℕ)
@@ -29,6 +34,11 @@ names =
     ∷ (99 ∷ 97 ∷ 110 ∷ 100 ∷ 105 ∷ 100 ∷ 97 ∷ 116 ∷ 101 ∷ 32 ∷ [])
     ∷ (99 ∷ 111 ∷ 117 ∷ 110 ∷ 116 ∷ 32 ∷ 32 ∷ 32 ∷ 32 ∷ 32 ∷ [])
     ∷ (101 ∷ 110 ∷ 100 ∷ 32 ∷ 32 ∷ 32 ∷ 32 ∷ 32 ∷ 32 ∷ 32 ∷ [])
+    -- density, flow, speed, station
+    ∷ (100 ∷ 101 ∷ 110 ∷ 115 ∷ 105 ∷ 116 ∷ 121 ∷ 32 ∷ 32 ∷ 32 ∷ [])
+    ∷ (102 ∷ 108 ∷ 111 ∷ 119 ∷ 32 ∷ 32 ∷ 32 ∷ 32 ∷ 32 ∷ 32 ∷ [])
+    ∷ (115 ∷ 112 ∷ 101 ∷ 101 ∷ 100 ∷ 32 ∷ 32 ∷ 32 ∷ 32 ∷ 32 ∷ [])
+    ∷ (115 ∷ 116 ∷ 97 ∷ 116 ∷ 105 ∷ 111 ∷ 110 ∷ 32 ∷ 32 ∷ 32 ∷ [])
     ∷ []
 
 -- whether a word, padded with blanks, is the name
@@ -43,19 +53,20 @@ unfoldable pub placeIn : List (List ℕ) → List ℕ → ℕ
 placeIn [] word = 0
 placeIn (n ∷ ns) word = pick (isName word n) 0 (suc (placeIn ns word))
 
--- a word's key; 18 where it is no keyword
+-- a word's key
 unfoldable pub keyCode : List ℕ → ℕ
 keyCode word = placeIn names word
 
+abbrev pub endKey : ℕ
+endKey = 17
+
+-- the key of a word that is no keyword
 abbrev pub unknownKey : ℕ
-unknownKey = 18
+unknownKey = keyCount
 
 -- the key of a line without words
 abbrev pub noKey : ℕ
-noKey = 19
-
-abbrev pub endKey : ℕ
-endKey = 17
+noKey = keyCount + 1
 
 -- a line's key: that of its first word
 unfoldable pub keyOf : List (List ℕ) → ℕ
@@ -66,13 +77,21 @@ keyOf (w ∷ ws) = keyCode w
 abbrev pub isList : ℕ → Bool
 isList key = both (leb 1 key) (or (leb key 3) (eqb key 6))
 
--- how many values a line of another key takes: road 5, pair 2, horizon, mode and count 1, estimates and bits 3, the rest none
+-- how many values a line of each key takes; a list's line takes one or more, and has 0 here
+unfoldable pub arities : List ℕ
+arities =
+    -- road, cells, upstream, downstream, pair, horizon
+    5 ∷ 0 ∷ 0 ∷ 0 ∷ 2 ∷ 1
+    -- word, mode, estimates, bits
+    ∷ 0 ∷ 1 ∷ 3 ∷ 3
+    -- forecast, settle, read, fit, rows, candidate, count, end
+    ∷ 0 ∷ 0 ∷ 0 ∷ 0 ∷ 0 ∷ 0 ∷ 1 ∷ 0
+    -- density, flow, speed, station
+    ∷ 2 ∷ 2 ∷ 2 ∷ 0
+    ∷ []
+
 abbrev pub arity : ℕ → ℕ
-arity key =
-    pick (eqb key 0) 5
-    (pick (eqb key 4) 2
-    (pick (or (eqb key 5) (or (eqb key 7) (eqb key 16))) 1
-    (pick (or (eqb key 8) (eqb key 9)) 3 0)))
+arity key = getD arities key 0
 
 -- the largest number: a code or a mode is one byte, a bit pattern 64 bits, any other number 32 bits
 abbrev pub mostOf : ℕ → ℕ

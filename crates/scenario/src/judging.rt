@@ -6,6 +6,7 @@ ghost use Rattle.scenario.specs.Pieces.{wordsIn, filledPiece};
 ghost use Rattle.scenario.specs.Judging.{wrongValue, wrongNumber, wrongValues, wrongLine, wrongAfter, judgedLine, toldKey, verdictOf, verdict};
 use super::finding::head_of;
 use super::items::item_of;
+use super::keys::CODES;
 use super::keys::END;
 use super::keys::NO_KEY;
 use super::keys::UNKNOWN;
@@ -15,8 +16,8 @@ use super::pieces::BLANK;
 use super::pieces::NEWLINE;
 use super::pieces::piece_end;
 
-// What is wrong first (0: nothing); its line, from 1 (0 only where nothing is wrong); and that line's key, 18 where it has
-// none or an unknown one, and for 0, 8 and 9.
+// What is wrong first (0: nothing); its line, from 1 (0 only where nothing is wrong); and that line's key, UNKNOWN where it
+// has none or an unknown one, and for 0, 8 and 9.
 pub struct Verdict {
     pub what: u32,
     pub line: u64,
@@ -28,7 +29,7 @@ pub struct Progress {
     pub what: u32,
     pub line: u64,
     pub key: u8,
-    pub seen: [bool; 20],
+    pub seen: [bool; CODES],
 }
 
 // The longest line.
@@ -210,7 +211,7 @@ pub fn judge(text: &[u8]) -> Verdict
         what: 0,
         line: 0,
         key: NO_KEY,
-        seen: [false; 20],
+        seen: [false; CODES],
     };
     let mut at = 0;
     while at < text.len() {

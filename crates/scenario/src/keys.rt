@@ -3,11 +3,14 @@ ghost use mathlib.Core.Path.{_≡_};
 ghost use Prim.Native.Nat.{_<_};
 ghost use lib.ListN.{getD};
 ghost use mathlib.Core.List.{[]};
-ghost use Rattle.scenario.specs.Keys.{names, isName, keyCode, isList, arity, mostOf};
+ghost use Rattle.scenario.specs.Keys.{keyCount, names, isName, keyCode, isList, arity, mostOf};
+
+// How many keywords there are: a new one is one more here, and a row at the end of each of the two tables.
+const KEYS: usize = 22;
 
 // The keywords in ASCII, padded with blanks to ten letters; a key's code is its place. No other keyword starts
 // with `end`: a text cut off within a keyword has no `end`.
-const NAMES: [[u8; 10]; 18] = [
+const NAMES: [[u8; 10]; KEYS] = [
     *b"road      ",
     *b"cells     ",
     *b"upstream  ",
@@ -26,14 +29,47 @@ const NAMES: [[u8; 10]; 18] = [
     *b"candidate ",
     *b"count     ",
     *b"end       ",
+    *b"density   ",
+    *b"flow      ",
+    *b"speed     ",
+    *b"station   ",
 ];
 
-// What a word that is no keyword has for a key, and what a line without words has.
-pub const UNKNOWN: u8 = 18;
-
-pub const NO_KEY: u8 = 19;
+// How many values a line of each key takes; a list's line takes one or more, and has 0 here.
+const ARITIES: [usize; KEYS] = [
+    5, // road
+    0, // cells
+    0, // upstream
+    0, // downstream
+    2, // pair
+    1, // horizon
+    0, // word
+    1, // mode
+    3, // estimates
+    3, // bits
+    0, // forecast
+    0, // settle
+    0, // read
+    0, // fit
+    0, // rows
+    0, // candidate
+    1, // count
+    0, // end
+    2, // density
+    2, // flow
+    2, // speed
+    0, // station
+];
 
 pub const END: u8 = 17;
+
+// What a word that is no keyword has for a key, and what a line without words has: the two codes after the keywords'.
+pub const UNKNOWN: u8 = KEYS as u8;
+
+pub const NO_KEY: u8 = UNKNOWN + 1;
+
+// How many codes a line's key may have.
+pub const CODES: usize = KEYS + 2;
 
 // Internal: a letter of a word, or a blank after its end.
 fn letter_at(word: &[u8], i: usize) -> u8
@@ -44,7 +80,7 @@ fn letter_at(word: &[u8], i: usize) -> u8
 
 // Internal: whether a word is the k-th keyword.
 fn is_name(word: &[u8], k: usize) -> bool
-    requires { ⌜ k < 18 ⌝ }
+    requires { ⌜ k < keyCount ⌝ }
     ensures { λ r. ⌜ r ≡ isName (now (word .entry)) (getD names k []) ⌝ }
 {
     let mut i = 0;
@@ -62,7 +98,7 @@ pub fn key_code(word: &[u8]) -> u8
     ensures { λ k. ⌜ k ≡ keyCode (now (word .entry)) ⌝ }
 {
     let mut k = 0;
-    while k < 18 {
+    while k < KEYS {
         if is_name(word, k) {
             return k as u8;
         }
@@ -86,17 +122,8 @@ pub fn is_list(key: u8) -> bool
 pub fn arity(key: u8) -> usize
     ensures { λ r. ⌜ r ≡ arity key ⌝ }
 {
-    if key == 0 {
-        5
-    } else if key == 4 {
-        2
-    } else if road::either(key == 5, road::either(key == 7, key == 16)) {
-        1
-    } else if road::either(key == 8, key == 9) {
-        3
-    } else {
-        0
-    }
+    let at = key as usize;
+    if at < KEYS { ARITIES[at] } else { 0 }
 }
 
 // Internal: the largest number that a key takes.

@@ -2,3 +2,4 @@
 pub mod Answers
 pub mod ForecastAnswers
 pub mod ModeAnswers
+pub mod SiteAnswers

@@ -2,3 +2,4 @@
 pub mod Parts
 pub mod Level1
 pub mod Level2
+pub mod Level3

@@ -1,7 +1,8 @@
-// The C interface: one exported function a public call. The road goes in as five numbers, lists as pointer and length;
-// the result is 0 or the refusal's number, and further results go through pointers, the seven counts through one pointer
-// to exactly seven.
+// The C interface: one exported function a public call, and for a station one a kind. The road goes in as five numbers,
+// lists as pointer and length; the result is 0 or the refusal's number, and further results go through pointers, the
+// seven counts through one pointer to exactly seven.
 mod ceilings;
 mod level1;
 mod level2;
+mod level3;
 mod parts;

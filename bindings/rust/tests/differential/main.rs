@@ -1,6 +1,6 @@
-//! The library against an independent reading of the scope document, call by call, on many inputs: results, refusal
-//! numbers and places, and buffers that keep their contents after a refusal. Each call is made twice, as C makes it and
-//! by this crate's safe function.
+//! The library against an independent reading of the scope document and of the requests after it, call by call, on many
+//! inputs: results, refusal numbers and places, and buffers that keep their contents after a refusal. Each call is made
+//! twice, as C makes it and by this crate's safe function.
 //!
 //! A failure prints its seed. `WELGADOU_SEED=n cargo test --release` then makes that one case of each call again;
 //! `WELGADOU_CASES=n` makes n times as many cases.
@@ -12,11 +12,11 @@ mod reference;
 
 use exact::Whole;
 use random::Random;
-use reference::Refused;
+use reference::{Refused, Station};
 use std::collections::BTreeMap;
 use std::env;
 use std::thread;
-use welgadou::{Fit, Refusal, Road};
+use welgadou::{Fit, Refusal, Road, StationReading};
 
 fn road_of([divisor, free, wave, jam, critical]: [u32; 5]) -> Road {
     Road { divisor, free, wave, jam, critical }
@@ -460,6 +460,70 @@ fn every_legal_word_occurs() {
     println!("legal words found as states: {tried}");
 }
 
+// Level 3.
+
+/// What a station call answers, to the bit the same as C makes it, by the safe function and by the reference. An estimate
+/// that comes back is accepted in each of a candidate's three places.
+fn station(road: [u32; 5], reading: Station) -> Result<f64, Refused> {
+    let expected = reference::station(road, reading);
+    let input = || format!("road {road:?}, {reading:?}");
+    let (by_c, given) = match reading {
+        Station::Density(density) => (raw::station_density(road, density), StationReading::Density(density)),
+        Station::FlowAndSpeed(flow, speed) => {
+            (raw::station_flow(road, flow, speed), StationReading::FlowAndSpeed { flow, speed })
+        }
+        Station::Speed(speed) => (raw::station_speed(road, speed), StationReading::Speed(speed)),
+    };
+    assert_eq!(by_c.map(f64::to_bits), expected.map(f64::to_bits), "{}", input());
+
+    let by_rust = welgadou::station(&road_of(road), given);
+    assert_eq!(by_rust.map(f64::to_bits).map_err(pair_of), expected.map(f64::to_bits), "{}", input());
+
+    if let Ok(x) = by_c {
+        for mode in 1..=7 {
+            for estimates in [[x, 0.0, 0.0], [0.0, x, 0.0], [0.0, 0.0, x], [x, x, x]] {
+                assert!(raw::candidate(road, mode, estimates).is_ok(), "{}, candidate {estimates:?}", input());
+            }
+        }
+    }
+    expected
+}
+
+fn one_station(g: &mut Random, given: impl Fn(&mut Random, &[u32; 5]) -> Station) -> Kind {
+    let mut road = random::good_road(g);
+    let mut reading = given(g, &road);
+    for _ in 0..faults(g) {
+        match g.below(3) {
+            0 => random::damage_road(g, &mut road),
+            _ => random::damage_station(g, &road, &mut reading),
+        }
+    }
+    let [_, _, _, jam, critical] = road.map(f64::from);
+    kind_of(&station(road, reading), |&x| {
+        if x == 0.0 {
+            [" zero", " minus zero"][usize::from(x.is_sign_negative())]
+        } else if x < critical {
+            " free"
+        } else if x == critical {
+            " critical"
+        } else if x < jam {
+            " queued"
+        } else {
+            " jam"
+        }
+    })
+}
+
+/// Each kind of station, with every number that comes up for it: 17 is for a lone speed, which stands for a density from
+/// critical to jam and so never comes to 18.
+#[test]
+fn stations() {
+    let words = [" minus zero", " zero", " free", " critical", " queued", " jam"];
+    cases("station, density", 100_000, &[1, 2, 3, 4, 16, 18], &words, |g| one_station(g, random::station_density));
+    cases("station, flow", 100_000, &[1, 2, 3, 4, 16, 18], &words, |g| one_station(g, random::station_flow));
+    cases("station, speed", 100_000, &[1, 2, 3, 4, 16, 17], &words[3..], |g| one_station(g, random::station_speed));
+}
+
 // Demand 3 and what follows.
 
 #[test]
@@ -573,17 +637,69 @@ fn road_a() {
     }
 }
 
+/// The cases of the request on stations, to the bit.
+#[test]
+fn fixed_stations() {
+    use Station::{Density, FlowAndSpeed, Speed};
+    let (tiny, below_free) = (f64::from_bits(1), f64::from_bits(0x3fe9_9999_9999_9999));
+    let accepted = [
+        (ROAD_A, Density(1000.0), 1000f64.to_bits()),
+        (ROAD_A, Density(0.0), 0),
+        (ROAD_A, Density(-0.0), 1 << 63),
+        (ROAD_A, Density(tiny), 1),
+        (ROAD_A, FlowAndSpeed(80.0, 0.8), 100f64.to_bits()),
+        (ROAD_A, FlowAndSpeed(10.0, 0.3), 0x4040_aaaa_aaaa_aaab),
+        (ROAD_A, FlowAndSpeed(1e-300, 1e300), 0),
+        (ROAD_A, FlowAndSpeed(-0.0, 0.8), 1 << 63),
+        (ROAD_A, FlowAndSpeed(tiny, tiny), 1f64.to_bits()),
+        (ROAD_A, Speed(0.0), 1000f64.to_bits()),
+        (ROAD_A, Speed(-0.0), 1000f64.to_bits()),
+        (ROAD_A, Speed(tiny), 1000f64.to_bits()),
+        (ROAD_A, Speed(0.2), 500f64.to_bits()),
+        (ROAD_A, Speed(0.6), 250f64.to_bits()),
+        (ROAD_A, Speed(below_free), 200f64.to_bits()),
+        (ROAD_A, Speed(0.1), 0x4084_d555_5555_5555),
+        ([5, 2, 3, 1000, 600], Speed(0.3), 0x4084_d555_5555_5555),
+        ([3, 1, 1, 2, 1], Speed(f64::from_bits(0x3fd5_5555_5555_5554)), 0x3ff0_0000_0000_0001),
+    ];
+    for (road, reading, bits) in accepted {
+        assert_eq!(station(road, reading).map(f64::to_bits), Ok(bits), "road {road:?}, {reading:?}");
+    }
+    let refused = [
+        (ROAD_A, Density(f64::from_bits(0x408f_4000_0000_0001)), 18),
+        (ROAD_A, FlowAndSpeed(1.0, tiny), 18),
+        (ROAD_A, FlowAndSpeed(0.0, 0.0), 16),
+        (ROAD_A, FlowAndSpeed(0.0, -0.0), 16),
+        (ROAD_A, FlowAndSpeed(80.0, -0.0), 16),
+        (ROAD_A, Speed(0.8), 17),
+        (ROAD_A, Speed(1.7e308), 17),
+        // A third of a cell a step as a float is below 1/3, but three times it rounds to 1.
+        ([3, 1, 1, 2, 1], Speed(1.0 / 3.0), 17),
+        ([5, 6, 1, 1000, 200], Density(f64::NAN), 2),
+        ([5, 6, 1, 1000, 200], Speed(0.8), 2),
+    ];
+    for (road, reading, number) in refused {
+        assert_eq!(station(road, reading), Err((number, 0)), "road {road:?}, {reading:?}");
+    }
+    for bad in [f64::NAN, -f64::NAN, -1.0, -tiny, f64::INFINITY, f64::NEG_INFINITY] {
+        for reading in [Density(bad), FlowAndSpeed(bad, 0.8), FlowAndSpeed(80.0, bad), Speed(bad)] {
+            assert_eq!(station(ROAD_A, reading), Err((16, 0)), "{reading:?}");
+        }
+    }
+}
+
 /// Every refusal has words of its own, and any number can be printed.
 #[test]
 fn refusals_have_words() {
     let text = |number| Refusal { number, place: 3 }.to_string();
     let reason = |number: u32| text(number).split_once(": ").expect("a reason").1.to_string();
-    for number in 1..=15 {
+    for number in 1..=18 {
         assert!(text(number).starts_with(&format!("refusal {number} at ")));
         assert!((1..number).all(|other| reason(other) != reason(number)));
         assert_ne!(reason(number), reason(u32::MAX));
     }
-    for (number, place) in [(1, "place 3"), (9, "cell 3"), (10, "step 3"), (12, "face 3"), (14, "estimate 3")] {
+    let places = [(1, "place 3"), (9, "cell 3"), (10, "step 3"), (12, "face 3"), (14, "estimate 3"), (16, "place 3")];
+    for (number, place) in places {
         assert!(text(number).starts_with(&format!("refusal {number} at {place}: ")));
     }
 }

@@ -1,6 +1,6 @@
-//! Inputs: a pseudo-random generator of our own, roads, densities, words and the ways to damage them.
+//! Inputs: a pseudo-random generator of our own, roads, densities, words, stations and the ways to damage them.
 
-use super::reference::{self, illegal};
+use super::reference::{self, illegal, Station};
 
 /// SplitMix64.
 pub struct Random(u64);
@@ -277,5 +277,69 @@ pub fn bad_estimate(g: &mut Random, road: &[u32; 5]) -> f64 {
         6 => -1.0,
         7 => -f64::NAN,
         _ => f64::from_bits(g.bits()),
+    }
+}
+
+/// A float from 0 on, or one of its neighbours up to two places away.
+fn beside(g: &mut Random, x: f64) -> f64 {
+    let bits = x.to_bits();
+    f64::from_bits(g.of(&[bits, bits.saturating_sub(1), bits + 1, bits.saturating_sub(2), bits + 2]))
+}
+
+/// A number for a station: zero, subnormal, a power of two, any at all, or, mostly, up to `edge` or right beside it.
+fn station_number(g: &mut Random, edge: f64) -> f64 {
+    match g.below(12) {
+        0 => g.of(&[0.0, -0.0]),
+        1 => f64::from_bits(g.bits() >> (12 + g.below(52))),
+        2 => f64::from_bits(u64::from(g.from(1, 2046)) << 52),
+        3 => f64::from_bits(u64::from(g.from(1023 - 24, 1023 + 20)) << 52),
+        4 => f64::from_bits(g.bits() >> 1),
+        5..=7 => beside(g, edge),
+        _ => edge * (g.bits() >> 11) as f64 / (1u64 << 53) as f64,
+    }
+}
+
+/// A station that gives a density: whole, beside a whole one, or any.
+pub fn station_density(g: &mut Random, road: &[u32; 5]) -> Station {
+    let whole = f64::from(density(g, road));
+    Station::Density(match g.below(4) {
+        0 => whole,
+        1 => beside(g, whole),
+        _ => station_number(g, f64::from(road[3])),
+    })
+}
+
+/// A station that gives a flow with a speed: often the flow of a density at that speed.
+pub fn station_flow(g: &mut Random, road: &[u32; 5]) -> Station {
+    let [d, p, _, j, c] = road.map(f64::from);
+    let speed = station_number(g, p / d);
+    let whole = f64::from(density(g, road));
+    Station::FlowAndSpeed(
+        match g.below(4) {
+            0 => beside(g, (whole * speed).abs()),
+            1 => beside(g, (j * speed).abs()),
+            2 => whole * speed,
+            _ => station_number(g, p * c / d),
+        },
+        speed,
+    )
+}
+
+/// A station that gives a speed alone: often that of a whole density above critical.
+pub fn station_speed(g: &mut Random, road: &[u32; 5]) -> Station {
+    let [d, p, q, j, _] = road.map(f64::from);
+    let queued = f64::from(g.from(road[4] + 1, road[3]));
+    Station::Speed(match g.below(3) {
+        0 => beside(g, q * (j - queued) / (queued * d)),
+        _ => station_number(g, p / d),
+    })
+}
+
+/// Puts a number into a station's place that is mostly refused.
+pub fn damage_station(g: &mut Random, road: &[u32; 5], reading: &mut Station) {
+    let bad = bad_estimate(g, road);
+    match reading {
+        Station::FlowAndSpeed(flow, _) if g.one_in(2) => *flow = bad,
+        Station::Density(number) | Station::FlowAndSpeed(_, number) | Station::Speed(number) => *number = bad,
     }
 }

@@ -34,6 +34,18 @@ extern "C" {
         numerator: *mut f64, place: *mut u32,
     ) -> u32;
     fn welgadou_count(cells: u32, words: *mut u64, place: *mut u32) -> u32;
+    fn welgadou_station_density(
+        divisor: u32, free: u32, wave: u32, jam: u32, critical: u32, density: f64, estimate: *mut f64,
+        place: *mut u32,
+    ) -> u32;
+    fn welgadou_station_flow(
+        divisor: u32, free: u32, wave: u32, jam: u32, critical: u32, flow: f64, speed: f64, estimate: *mut f64,
+        place: *mut u32,
+    ) -> u32;
+    fn welgadou_station_speed(
+        divisor: u32, free: u32, wave: u32, jam: u32, critical: u32, speed: f64, estimate: *mut f64,
+        place: *mut u32,
+    ) -> u32;
 }
 
 /// A number that stands where a call may write, and that no call writes there.
@@ -212,4 +224,25 @@ pub fn count(cells: u32) -> Result<u64, Refused> {
     // SAFETY: both pointers are those of local values.
     let number = unsafe { welgadou_count(cells, &mut words, &mut place) };
     answer(number, place, words == PATTERN, || words)
+}
+
+pub fn station_density([d, p, q, j, c]: [u32; 5], density: f64) -> Result<f64, Refused> {
+    let (mut estimate, mut place) = (f64::from_bits(PATTERN), WORD);
+    // SAFETY: both pointers are those of local values.
+    let number = unsafe { welgadou_station_density(d, p, q, j, c, density, &mut estimate, &mut place) };
+    answer(number, place, estimate.to_bits() == PATTERN, || estimate)
+}
+
+pub fn station_flow([d, p, q, j, c]: [u32; 5], flow: f64, speed: f64) -> Result<f64, Refused> {
+    let (mut estimate, mut place) = (f64::from_bits(PATTERN), WORD);
+    // SAFETY: both pointers are those of local values.
+    let number = unsafe { welgadou_station_flow(d, p, q, j, c, flow, speed, &mut estimate, &mut place) };
+    answer(number, place, estimate.to_bits() == PATTERN, || estimate)
+}
+
+pub fn station_speed([d, p, q, j, c]: [u32; 5], speed: f64) -> Result<f64, Refused> {
+    let (mut estimate, mut place) = (f64::from_bits(PATTERN), WORD);
+    // SAFETY: both pointers are those of local values.
+    let number = unsafe { welgadou_station_speed(d, p, q, j, c, speed, &mut estimate, &mut place) };
+    answer(number, place, estimate.to_bits() == PATTERN, || estimate)
 }

@@ -1,6 +1,6 @@
-//! The scope document in plain Rust, written from the document and from the readings of its open points in
-//! docs/DECISIONS.md: wide integers, whole vectors, one short function a sentence. It shares no code with the library, so
-//! that a difference is a fault of one of the two.
+//! The scope document and the requests after it in plain Rust, written from these documents and from the readings of
+//! their open points in docs/DECISIONS.md: wide integers, whole vectors, one short function a sentence. It shares no code
+//! with the library, so that a difference is a fault of one of the two.
 
 /// A refusal: its number and place.
 pub type Refused = (u32, u32);
@@ -89,6 +89,24 @@ fn row_14(r: &Road, estimates: [f64; 3]) -> Option<Refused> {
 
 fn row_15(cells: u32) -> Option<Refused> {
     (cells > 40).then_some((15, 0))
+}
+
+fn row_16(reading: Station) -> Option<Refused> {
+    let bad = |x: f64| x.is_nan() || x < 0.0 || x.is_infinite();
+    let applies = match reading {
+        Station::Density(density) => bad(density),
+        Station::FlowAndSpeed(flow, speed) => bad(flow) || bad(speed) || speed == 0.0,
+        Station::Speed(speed) => bad(speed),
+    };
+    applies.then_some((16, 0))
+}
+
+fn row_17(r: &Road, reading: Station) -> Option<Refused> {
+    matches!(reading, Station::Speed(s) if s * r.d as f64 >= r.p as f64).then_some((17, 0))
+}
+
+fn row_18(r: &Road, reading: Station) -> Option<Refused> {
+    (!(0.0..=r.j as f64).contains(&estimate(r, reading))).then_some((18, 0))
 }
 
 /// The lowest number that applies, out of rows that were all looked at.
@@ -373,4 +391,34 @@ pub fn legal_words(cells: u32) -> Vec<Vec<u8>> {
     let all = 3u32.pow(cells + 1);
     let word = |code: u32| (0..=cells).map(|face| (code / 3u32.pow(face) % 3) as u8).collect::<Vec<u8>>();
     (0..all).map(word).filter(|word| !word.windows(2).any(|pair| illegal(pair[0], pair[1]))).collect()
+}
+
+// Level 3.
+
+/// What a station gives: a density, a flow with a speed, or a speed alone.
+#[derive(Clone, Copy, Debug)]
+pub enum Station {
+    Density(f64),
+    FlowAndSpeed(f64, f64),
+    Speed(f64),
+}
+
+/// The density that a reading stands for, refused or not.
+fn estimate(r: &Road, reading: Station) -> f64 {
+    match reading {
+        Station::Density(density) => density,
+        Station::FlowAndSpeed(flow, speed) => flow / speed,
+        Station::Speed(s) => {
+            let above = r.q as f64 * r.j as f64;
+            let by_divisor = s * r.d as f64;
+            let below = by_divisor + r.q as f64;
+            above / below
+        }
+    }
+}
+
+pub fn station(r: [u32; 5], reading: Station) -> Result<f64, Refused> {
+    let r = &Road::new(r);
+    judge(&[row_1(r), row_2(r), row_3(r), row_4(r), row_16(reading), row_17(r, reading), row_18(r, reading)])?;
+    Ok(estimate(r, reading))
 }

@@ -1,5 +1,5 @@
 -- `console::of_bits` is safe: the tests rule out the bits of a NaN.
-use Rattle.console.proofs.Doubles.{digits-clear, exponent-clear}
+use Rattle.console.proofs.Nans.{digits-clear, exponent-clear}
 use borrow.Author.Tests.{eq-eqb, ne-eqb}
 use borrow.Author.Needs.{needs}
 use Rattle.console.proofs.candidates.of_bits.Statement.{statement}

@@ -1,8 +1,9 @@
 -- `scenario::judge_line` meets its contract: its record is the definition's.
-use Prim.Native.Nat.{_<_}
+use Prim.Native.Nat.{_<_, _+_}
 use native.Mathlib.Omega.{arith}
 use borrow.Author.Needs.{needs}
 use Rattle.scenario.specs.Pieces.{words}
+use Rattle.scenario.specs.Keys.{keyCount}
 use Rattle.scenario.proofs.Headed.{head-key, key-small}
 use Rattle.scenario.proofs.Judged.{judged-is}
 use Rattle.scenario.proofs.judging.judge_line.Statement.{statement}
@@ -23,8 +24,8 @@ cast-end c = search needs
 element-copy-out-wrong-after : tie.Need-element-copy-out-wrong-after
 element-copy-out-wrong-after c = search needs
 
--- the key is one of twenty
-small : (c : tie.After-head-of) → c .head-of .result .key < 20
+-- the key has a place among those seen
+small : (c : tie.After-head-of) → c .head-of .result .key < keyCount + 2
 small c =
     let line = c .before .before .before .args .line .now in
     omega (arith, head-key line (c .head-of .result) (c .head-of .ensures), key-small (words line))

@@ -1,14 +1,15 @@
 -- `scenario::told_key` meets its contract: at each `return` the test says which case holds.
 use mathlib.Core.Path.{refl}
 use borrow.Author.Tests.{eq-eqb, ne-eqb}
+use Rattle.scenario.specs.Keys.{noKey}
 use Rattle.scenario.proofs.judging.told_key.Statement.{statement}
 use Rattle.scenario.proofs.judging.told_key.Tie as tie
 
 returns : tie.Need-returns
-returns c = rw (eq-eqb (c .before .args .key) 19 (c .if1 .taken)) refl
+returns c = rw (eq-eqb (c .before .args .key) noKey (c .if1 .taken)) refl
 
 returns-2 : tie.Need-returns-2
-returns-2 c = rw (ne-eqb (c .before .args .key) 19 (c .if1 .left)) refl
+returns-2 c = rw (ne-eqb (c .before .args .key) noKey (c .if1 .left)) refl
 
 pub told-key-spec : {M : Type 1} → statement M
 told-key-spec =

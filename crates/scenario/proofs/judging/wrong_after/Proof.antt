@@ -2,6 +2,7 @@
 use mathlib.Core.Path.{sym, refl, _∙_}
 use borrow.Author.Needs.{needs}
 use borrow.Author.Tests.{eq-eqb, ne-eqb}
+use Rattle.scenario.specs.Keys.{noKey}
 use Rattle.scenario.proofs.judging.wrong_after.Statement.{statement}
 use Rattle.scenario.proofs.judging.wrong_after.Tie as tie
 
@@ -9,19 +10,19 @@ is-list-requires : tie.Need-is-list-requires
 is-list-requires c κs = search needs
 
 returns : tie.Need-returns
-returns c = rw (eq-eqb (c .before .args .key) 19 (c .if1 .taken)) refl
+returns c = rw (eq-eqb (c .before .args .key) noKey (c .if1 .taken)) refl
 
 returns-2 : tie.Need-returns-2
 returns-2 c =
     let k = c .before in
-    rw (ne-eqb (k .before .args .key) 19 (k .if1 .left), c .if2 .taken) refl
+    rw (ne-eqb (k .before .args .key) noKey (k .if1 .left), c .if2 .taken) refl
 
 returns-3 : tie.Need-returns-3
 returns-3 c =
     let e = c .before in
     let k = e .before in
     let a = k .before .args in
-    rw (ne-eqb (a .key) 19 (k .if1 .left), e .if2 .left, ne-eqb (a .own) 0 (c .if3 .taken)) refl
+    rw (ne-eqb (a .key) noKey (k .if1 .left), e .if2 .left, ne-eqb (a .own) 0 (c .if3 .taken)) refl
 
 returns-4 : tie.Need-returns-4
 returns-4 c =
@@ -30,7 +31,7 @@ returns-4 c =
     let e = o .before in
     let k = e .before in
     let a = k .before .args in
-    rw (ne-eqb (a .key) 19 (k .if1 .left), e .if2 .left, eq-eqb (a .own) 0 (o .if3 .left), sym (l .is-list .ensures) ∙ c .if4 .taken) refl
+    rw (ne-eqb (a .key) noKey (k .if1 .left), e .if2 .left, eq-eqb (a .own) 0 (o .if3 .left), sym (l .is-list .ensures) ∙ c .if4 .taken) refl
 
 returns-5 : tie.Need-returns-5
 returns-5 c =
@@ -40,7 +41,7 @@ returns-5 c =
     let e = o .before in
     let k = e .before in
     let a = k .before .args in
-    rw (ne-eqb (a .key) 19 (k .if1 .left), e .if2 .left, eq-eqb (a .own) 0 (o .if3 .left), sym (l .is-list .ensures) ∙ n .if4 .left, c .if5 .taken) refl
+    rw (ne-eqb (a .key) noKey (k .if1 .left), e .if2 .left, eq-eqb (a .own) 0 (o .if3 .left), sym (l .is-list .ensures) ∙ n .if4 .left, c .if5 .taken) refl
 
 returns-6 : tie.Need-returns-6
 returns-6 c =
@@ -50,7 +51,7 @@ returns-6 c =
     let e = o .before in
     let k = e .before in
     let a = k .before .args in
-    rw (ne-eqb (a .key) 19 (k .if1 .left), e .if2 .left, eq-eqb (a .own) 0 (o .if3 .left), sym (l .is-list .ensures) ∙ n .if4 .left, c .if5 .left) refl
+    rw (ne-eqb (a .key) noKey (k .if1 .left), e .if2 .left, eq-eqb (a .own) 0 (o .if3 .left), sym (l .is-list .ensures) ∙ n .if4 .left, c .if5 .left) refl
 
 pub wrong-after-spec : {M : Type 1} → statement M
 wrong-after-spec =

@@ -3,7 +3,7 @@ use mathlib.Core.Path.{_∙_, sym}
 use mathlib.Core.List.{[]}
 use Prim.Native.Nat.{_-_}
 use native.Mathlib.Omega.{arith}
-use Rattle.scenario.specs.Keys.{names, isName, keyCode}
+use Rattle.scenario.specs.Keys.{keyCount, names, isName, keyCode}
 use Rattle.scenario.proofs.Search.{Searching, found, turns, ends}
 use Rattle.scenario.proofs.Naming.{names-length, to-name}
 use borrow.Author.Needs.{needs}
@@ -14,7 +14,7 @@ abbrev Inv-loop : tie.InvT-loop
 Inv-loop word k₀ k = Searching (isName word) names (keyCode word) k
 
 abbrev μ-loop : tie.MeasureT-loop
-μ-loop word k₀ k = 18 - k
+μ-loop word k₀ k = keyCount - k
 
 loop-holds : tie.Need-loop-holds Inv-loop μ-loop
 loop-holds c = to-name (c .before .args .word .now)

@@ -1,8 +1,8 @@
 -- `console::bits` is safe: a double that equals itself is no NaN, so its bits can be read.
-use Rattle.console.proofs.Doubles.{equals-itself}
+use Rattle.floats.proofs.Known.{equals-itself}
 use borrow.Author.Needs.{needs}
-use Rattle.console.proofs.candidates.bits.Statement.{statement}
-use Rattle.console.proofs.candidates.bits.Tie as tie
+use Rattle.console.proofs.doubles.bits.Statement.{statement}
+use Rattle.console.proofs.doubles.bits.Tie as tie
 
 returns : tie.Need-returns
 returns c = search needs

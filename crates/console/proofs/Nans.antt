@@ -1,9 +1,9 @@
--- Doubles that are not a NaN: by their bits, and by being equal to themselves.
+-- Bits that are not those of a NaN.
 use mathlib.Core.Path.{_≡_}
-use mathlib.Core.Bool.{Bool, true, false, not, _&&_, true≢false}
+use mathlib.Core.Bool.{Bool, true, false, not, _&&_}
 use Prim.Native.Nat.{ℕ, _%_, _/_}
 use lib.Dec.{T, eqb}
-use lib.Ieee.{Float, nan, inf, fin, isNan, ne, nanBits, binary64}
+use lib.Ieee.{nanBits, binary64}
 
 last-clear : (a b : Bool) → b ≡ true → T (not (a && not b))
 last-clear true b e = rw e tt
@@ -21,9 +21,3 @@ digits-clear n = last-clear (eqb (n % 9223372036854775808 / 4503599627370496) 20
 pub exponent-clear : (n : ℕ) → eqb (n % 9223372036854775808 / 4503599627370496) 2047 ≡ false → T (not (nanBits binary64 n))
 unfolding nanBits
 exponent-clear n = first-clear (eqb (n % 9223372036854775808 / 4503599627370496) 2047) (not (eqb (n % 4503599627370496) 0))
-
-pub equals-itself : (x : Float) → ne x x ≡ false → T (not (isNan x))
-unfolding ne isNan
-equals-itself nan h = absurd (true≢false h)
-equals-itself (inf s) h = tt
-equals-itself (fin s m e) h = tt

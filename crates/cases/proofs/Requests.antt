@@ -1,0 +1,49 @@
+-- The values of document 02 and of its requests hold: each is computed from the definitions.
+use mathlib.Core.Path.{_≡_, _∙_, refl, sym}
+use mathlib.Core.Bool.{Bool, true, false}
+use mathlib.Core.List.{[], _∷_, _++_}
+use Prim.Native.Nat.{ℕ}
+use lib.Dec.{eqb}
+use lib.IntN.{ℤ, pos}
+use lib.Ieee.{Float, fin, round, sum, add, mul, div, lt, eq, le, ne, ofInt, ofBits}
+use Rattle.road.specs.Choice.{pick}
+use Rattle.road.specs.Table.{row, judge, orIf}
+use Rattle.road.specs.Judgement.{roadRows}
+use Rattle.road.specs.declared.refusal.Refusal.{Refusal}
+use Rattle.site.specs.Station.{whole, speedDensity, estimateOf, badNumber, badGiven, tooFast, badResult, stationRefusal, stationAnswer}
+use Rattle.site.specs.declared.stations.StationReading.{StationReading}
+use Rattle.site.specs.declared.stations.StationReading.the-variants.{Density, FlowAndSpeed, Speed}
+use Rattle.site.specs.declared.stations.StationAnswer.the-variants.{Done, Refused}
+use Rattle.cases.specs.Starred.{roadA}
+use Rattle.cases.specs.Requests.{fifth, three-fifths, four-fifths, gives, givesRefusal, Requested}
+
+-- E1: what the rows come to, and the answer, once each row's test is known. The tests are worked first, since the table asks for each many times
+tests : Bool → Bool → Bool → Refusal
+tests given fast outside = judge (roadRows roadA ++ (row given 16 0 ∷ row fast 17 0 ∷ row outside 18 0 ∷ []))
+
+by-tests : (x : StationReading) {given fast outside : Bool} {density : Float}
+    → badGiven x ≡ given → tooFast roadA x ≡ fast → badResult roadA x ≡ outside → estimateOf roadA x ≡ density
+    → stationAnswer roadA x ≡ pick (eqb (tests given fast outside .number) 0) (Done (record { density = density })) (Refused (tests given fast outside))
+unfolding stationAnswer stationRefusal tests
+by-tests x g f o e = λ i. pick (eqb (tests (g i) (f i) (o i) .number) 0) (Done (record { density = e i })) (Refused (tests (g i) (f i) (o i)))
+
+-- the estimate and the whole density are both m × 2^e
+accepted : (x : StationReading) (density m : ℕ) (e : ℤ) → badGiven x ≡ false → tooFast roadA x ≡ false → badResult roadA x ≡ false
+    → estimateOf roadA x ≡ fin false m e → whole density ≡ fin false m e → gives x density
+unfolding tests orIf
+accepted x density m e g f o is same = by-tests x g f o (is ∙ sym same)
+
+too-fast : (x : StationReading) → badGiven x ≡ false → tooFast roadA x ≡ true → givesRefusal x 17
+unfolding tests orIf
+too-fast x g f = by-tests x g f refl refl
+
+pub requested : Requested
+unfolding round sum add mul div lt eq le ne ofInt ofBits speedDensity estimateOf badNumber badGiven tooFast
+requested = record {
+  density-1000 = accepted (Density (whole 1000)) 1000 125 (pos 3) refl refl refl refl refl;
+  flow-80-speed-0·8 = accepted (FlowAndSpeed (whole 80) four-fifths) 100 25 (pos 2) refl refl refl refl refl;
+  speed-0 = accepted (Speed (whole 0)) 1000 125 (pos 3) refl refl refl refl refl;
+  speed-0·2 = accepted (Speed fifth) 500 125 (pos 2) refl refl refl refl refl;
+  speed-0·6 = accepted (Speed three-fifths) 250 125 (pos 1) refl refl refl refl refl;
+  speed-0·8 = too-fast (Speed four-fifths) refl refl;
+}

@@ -1,0 +1,20 @@
+-- What the C calls of Level 3 promise: the number returned, and every pointer's contents, from the definitions of the call below, and
+-- demand 1 of the number and place (`judged`).
+use mathlib.Core.Path.{_≡_}
+use Prim.Native.Nat.{ℕ}
+use lib.Ieee.{Float, binary64}
+use Rattle.road.specs.Table.{refused}
+use Rattle.road.specs.declared.Road.{Road}
+use Rattle.floats.specs.Worth.{Passes}
+use Rattle.site.specs.declared.stations.StationReading.{StationReading}
+use Rattle.site.specs.Station.{stationMeaning, StationJudged}
+use Rattle.welgadou.specs.Parts.{written}
+
+-- welgadou_station_density, welgadou_station_flow, welgadou_station_speed: the estimate of a reading of that kind
+pub record StationEstimated (r : Road) (x : StationReading) (estimate estimate-next : Float) (place number : ℕ) : Type 0 where
+  pub returned : number ≡ stationMeaning r x .number
+  pub placed : place ≡ stationMeaning r x .place
+  pub estimate-written : estimate-next ≡ written number (stationMeaning r x .density) estimate
+  pub judged : StationJudged r x (refused number place)
+  -- an estimate that is written is accepted by welgadou_candidate on the same road, in each of its three places
+  pub feeds : number ≡ 0 → Passes binary64 (r .jam) estimate-next
