@@ -1,4 +1,4 @@
--- The theorems of Level 3: why a lone speed has one density, which product is exact, and the station's answers.
+-- The theorems of Level 3: which densities move at which speed, which product is exact, and the station's answers.
 pub mod Speeds
 pub mod Products
 pub mod StationAnswers

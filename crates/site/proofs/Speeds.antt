@@ -1,4 +1,4 @@
--- A speed below the free speed has one density, by products alone: (p + q) × C = q × J.
+-- Which densities move at which speed, by products alone: (p + q) × C = q × J.
 use mathlib.Core.Path.{_≡_, _∙_, sym, ap, ap₂}
 use Prim.Native.Nat.{ℕ, _+_, _-_, _*_, _≤_, _<_, min}
 use native.Mathlib.Nat.{le-of-lt, lt-of-not-le, mul-pos, add-mul, mul-sub, mul-left-comm, mul-mul-mul-comm, eq-of-mul-eq-mul-left, mul-le-mul-left, mul-le-mul-right, mul-lt-mul-of-pos-left, mul-lt-mul-of-pos-right, min-eq-left, min-eq-right, sub-le-sub-left}
@@ -26,7 +26,7 @@ finer-balanced m z {r} hm hz b = record {
       ∙ ap (λ (n : ℕ). m * r .wave * n) (mul-sub z (r .jam) (r .critical));
 }
 
--- the density that E1 gives a speed is whole at some scale: in parts of 1/(k + q) it is q × J
+-- the density that E1 gives the speed k/(m × D) is whole at some scale: in parts of 1/(k + m × q) it is m × q × J
 pub some-density : (m k : ℕ) (r : Road) → let fine = finer m (k + m * r .wave) r in
     (k + fine .wave) * (m * r .wave * r .jam) ≡ fine .wave * fine .jam
 some-density m k r = mul-left-comm (k + m * r .wave) (m * r .wave) (r .jam)
@@ -136,6 +136,6 @@ module _ {r : Road} (ok : Balanced r) where
           let more : r .free * r .critical ≤ r .free * ρ = mul-le-mul-left (r .free) (le-of-lt (lt-of-not-le n)) in
           omega (arith, moves, faster)
 
-  -- an empty road apart: below the free speed one density moves, at it many do, above it none
+  -- of the densities from 1 to jam: below the free speed at most one moves so, at it every one up to the critical, above it none
   pub one-density : OneDensity r
   one-density = record { only = only; one = one; free = free-flow; none = none }

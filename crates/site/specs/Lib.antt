@@ -1,3 +1,3 @@
--- The definitions of Level 3: station readings, and why a lone speed has one density.
+-- The definitions of Level 3: station readings, and which densities move at which speed.
 pub mod Station
 pub mod Speeds

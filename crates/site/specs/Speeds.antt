@@ -15,23 +15,23 @@ pub record Balanced (r : Road) : Type 0 where
 abbrev pub finer : ℕ → ℕ → Road → Road
 finer m z r = record { divisor = m * r .divisor; free = m * r .free; wave = m * r .wave; jam = z * r .jam; critical = z * r .critical }
 
--- traffic of density ρ everywhere moves at k/D: its flow, times D, is k × ρ
+-- traffic of density ρ everywhere, from 1 to jam, moves at k/D: its flow, times D, is k × ρ
 abbrev pub Moves : Road → ℕ → ℕ → Type 0
 Moves r k ρ = numerator r ρ ρ ≡ k * ρ
 
 -- of a speed k/D and the density ρ that E1 gives it: q × J divided by (k + q), that is (k + q) × ρ = q × J
 pub record SpeedDensity (r : Road) (k ρ : ℕ) : Type 0 where
   pub within : ρ ≤ r .jam
-  -- the line that (II.3) has above the critical density
+  -- what (II.3) says above the critical density, here of every k: below the critical density it is that line prolonged
   pub line : r .wave * (r .jam - ρ) ≡ k * ρ
   pub moves : r .critical < ρ → Moves r k ρ
   -- the speeds below the free speed are those whose density is above the critical one
   pub slow-dense : k < r .free → r .critical < ρ
   pub dense-slow : r .critical < ρ → k < r .free
 
--- "faster traffic has no single density", and slower traffic has; an empty road, which moves nothing, is left out
+-- "faster traffic has no single density": which densities, from 1 to jam, move at a speed
 pub record OneDensity (r : Road) : Type 0 where
-  -- below the free speed the density that E1 gives is the only one that moves so
+  -- below the free speed at most one: that which E1 gives, if it is whole. Counted finely enough it is (`some-density`)
   pub only : (k ρ : ℕ) → k < r .free → 1 ≤ ρ → ρ ≤ r .jam → Moves r k ρ → (k + r .wave) * ρ ≡ r .wave * r .jam
   pub one : (k ρ σ : ℕ) → (k + r .wave) * ρ ≡ r .wave * r .jam → (k + r .wave) * σ ≡ r .wave * r .jam → ρ ≡ σ
   -- at the free speed every density up to the critical one moves
