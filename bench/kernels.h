@@ -15,8 +15,8 @@ typedef void reader(const struct road *, const uint32_t *cells, size_t n, uint32
 typedef void predictor(const struct road *, const uint32_t *cells, size_t n, uint32_t up, uint32_t down,
                        const uint8_t *word, int64_t *out);
 
-forecaster plain_forecast, tuned_one_pass, tuned_two_passes;
-settler plain_settle, tuned_settle;
-reader plain_read, tuned_read;
-predictor plain_rows, tuned_rows;
+forecaster plain_forecast, tuned_one_pass, tuned_two_passes, proved_forecast, before_forecast;
+settler plain_settle, tuned_settle, proved_settle, before_settle;
+reader plain_read, tuned_read, proved_read, before_read;
+predictor plain_rows, tuned_rows, proved_rows, before_rows;
 #endif

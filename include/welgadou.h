@@ -17,11 +17,21 @@
  *     those left; and the divisor times the distance from the same forecast made without rounding, summed over the
  *     cells, is at most cells x steps x (divisor - 1).
  *   - The cells that a forecast or a settling run hands back are accepted as the next one's start, on the same road,
- *     for ever.
+ *     whatever its other inputs, as long as they pass their own checks: for ever.
  *   - The estimate that a station call hands back is accepted by welgadou_candidate in each of its three places, on the
  *     same road.
  *
- * docs/CERTIFICATE.md names the theorem behind each sentence, and what the proofs rest on.
+ * What the comments below say of a call is a clause of its contract, or follows from one at sight, but for these:
+ *
+ *   - Proved beside the contracts: that a call returns (of every function, by the prover); "for ever", over calls in a
+ *     chain, of which one link follows from the contracts of two calls; the printed table of the modes; which densities
+ *     move at which speed (welgadou_station_speed), without rounding; that a foreign word's number may be negative (a
+ *     case).
+ *   - Not proved, but read off the code and the build: which calls use floating point; what is said of null pointers,
+ *     memory, other libraries and threads; that a refused call stores nothing (the contract says that the contents are
+ *     the same, and of a NaN that it is still one); and where it stands in brackets.
+ *
+ * docs/CERTIFICATE.md names the clause or theorem behind each sentence, and what the proofs rest on.
  *
  * WHAT THE CALLER OWES
  *
@@ -186,7 +196,7 @@ uint32_t welgadou_settle(uint32_t divisor, uint32_t free, uint32_t wave, uint32_
  * Level 2: letters, modes and rows
  *
  * The mode of a cell follows from the letters of the faces before and after it. Each mode has a row, which gives the
- * density after one step, times the divisor, before any rounding:
+ * density of a cell in that mode after one step, times the divisor, before any rounding:
  *
  *    Mode  Letters  Row
  *     1    W W      divisor x own  - wave x own      + wave x right
@@ -239,7 +249,8 @@ uint32_t welgadou_fit(uint32_t divisor, uint32_t free, uint32_t wave, uint32_t j
                       uint32_t *holds, uint32_t *face, uint32_t *place);
 
 /* Applies the rows of a legal word to a state, whether or not the word is the state's own. With its own word each number
- * is exactly the next density times the divisor, and the rounded density times the divisor is less than a divisor away.
+ * is exactly the next density before rounding, times the divisor, and the rounded one times the divisor is less than a
+ * divisor away.
  * With a foreign word a number may be negative.
  *
  * Returns:  0, or the number of the refusal.
@@ -334,8 +345,8 @@ uint32_t welgadou_station_flow(uint32_t divisor, uint32_t free, uint32_t wave, u
  * Returns:  0, or the number of the refusal.
  * In:       divisor, free, wave, jam, critical: the road.
  *           speed:                        what the station gives. speed x divisor, rounded, is below free: else 17.
- * Out:      estimate:                     (wave x jam) / (speed x divisor + wave); jam where the speed is 0. For a speed
- *                                         just below the free speed, rounding may give critical itself.
+ * Out:      estimate:                     (wave x jam) / (speed x divisor + wave). (It is jam where the speed is 0. For a
+ *                                         speed just below the free speed, rounding may give critical itself.)
  *           place:                        0 in either case.
  * Refusals: 1 to 4, 16 to 18.
  */

@@ -1,3 +1,6 @@
--- The starred cases of document 01 and the values of document 02, shown.
+-- The proofs of the commission's sentences, of the starred cases, of document 02's values, of the witnesses and of the refusals.
+pub mod Commission
 pub mod Starred
 pub mod Requests
+pub mod Witnesses
+pub mod Refusals

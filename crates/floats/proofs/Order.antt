@@ -1,18 +1,19 @@
--- Two floats that are whole numbers compare as those numbers.
-use mathlib.Core.Path.{_≡_, refl, sym, ap₂, _∙_}
-use mathlib.Core.Bool.{Bool, true, false}
+-- Two floats that are whole numbers compare as those numbers; and so, at the same scale, do a whole number and any finite number.
+use mathlib.Core.Path.{_≡_, refl, sym, ap, ap₂, _∙_}
+use mathlib.Core.Bool.{Bool, true, false, not}
 use Prim.Native.Nat.{ℕ, zero, suc, _+_, _*_, _≤_, _<_, zero-le}
 use native.Mathlib.Decide.{decLt}
-use native.Mathlib.Nat.{mul-pos, add-mul, zero-add, zero-mul, zero-lt-suc, mul-lt-mul-of-pos-right, mul-le-mul-right}
+use native.Mathlib.Nat.{add-mul, zero-add, zero-mul, mul-right-comm, zero-lt-suc, mul-lt-mul-of-pos-right, mul-le-mul-right}
 use native.Mathlib.Omega.{arith}
 use borrow.Author.Tests.{lt-ltb, le-ltb}
 use lib.Dec.{ltb, leb·suc-suc}
-use lib.IntN.{ℤ}
+use lib.IntN.{ℤ, pos, _*ℤ_}
 use lib.Signed.{ltZ}
-use lib.Ieee.{Float, down, below, lt}
+use lib.Ieee.{Float, inf, fin, up, down, below, lt}
 use lib.Ieee.Fits.{down-pos}
-use Rattle.floats.specs.Worth.{signed, Worth}
-use Rattle.floats.proofs.Value.{Sized, sized, Valued, valued, worth→value, over}
+use Rattle.floats.specs.Worth.{signed, Worth, exactly}
+use Rattle.floats.proofs.Signs.{signed-times}
+use Rattle.floats.proofs.Value.{Sized, sized, Valued, valued, worth→value}
 
 ltb-times : (a b d : ℕ) → 0 < d → ltb (a * d) (b * d) ≡ ltb a b
 ltb-times a b d p = go (decLt a b)
@@ -40,11 +41,45 @@ below-signed true true zero (suc b) = le-ltb (suc b) 0 zero-le
 below-signed true true (suc a) zero = lt-ltb 0 (suc a) (zero-lt-suc a)
 below-signed true true (suc a) (suc b) = leb·suc-suc (suc b) a
 
-lt-below : {x y : Float} {s t : Bool} {a b : ℕ} → Sized x s a → Sized y t b → lt x y ≡ below s a t b
+-- a finite number beside a whole one, both times `down e`
+module _ (s : Bool) (m : ℕ) (e : ℤ) where
+  scaled : {n : ℕ} (b : ℕ) (d : ℤ) → n ≡ b * down d → n * down e ≡ b * down e * down d
+  scaled b d k = ap (λ (n : ℕ). n * down e) k ∙ mul-right-comm b (down d) (down e)
+
+  lt-sized : {y : Float} {t : Bool} {b : ℕ} → Sized y t b → lt (fin s m e) y ≡ below s (m * up e) t (b * down e)
+  unfolding lt
+  lt-sized (sized {s = t} {e = d} {a = b} k) =
+      ap (below s (m * up e * down d) t) (scaled b d k) ∙ below-times s t (m * up e) (b * down e) (down d) (down-pos d)
+
+  sized-lt : {y : Float} {t : Bool} {b : ℕ} → Sized y t b → lt y (fin s m e) ≡ below t (b * down e) s (m * up e)
+  unfolding lt
+  sized-lt (sized {s = t} {e = d} {a = b} k) =
+      ap (λ (n : ℕ). below t n s (m * up e * down d)) (scaled b d k) ∙ below-times t s (b * down e) (m * up e) (down d) (down-pos d)
+
+  pub lt-whole : {y : Float} {w : ℤ} → Worth y w → lt (fin s m e) y ≡ ltZ (signed s (m * up e)) (w *ℤ pos (down e))
+  lt-whole h = go (worth→value h)
+    where
+      go : {y : Float} {w : ℤ} → Valued y w → lt (fin s m e) y ≡ ltZ (signed s (m * up e)) (w *ℤ pos (down e))
+      go (valued {s = t} {a = b} k) = rw (← signed-times t b (down e)) (lt-sized k ∙ below-signed s t (m * up e) (b * down e))
+
+  pub whole-lt : {y : Float} {w : ℤ} → Worth y w → lt y (fin s m e) ≡ ltZ (w *ℤ pos (down e)) (signed s (m * up e))
+  whole-lt h = go (worth→value h)
+    where
+      go : {y : Float} {w : ℤ} → Valued y w → lt y (fin s m e) ≡ ltZ (w *ℤ pos (down e)) (signed s (m * up e))
+      go (valued {s = t} {a = b} k) = rw (← signed-times t b (down e)) (sized-lt k ∙ below-signed t s (b * down e) (m * up e))
+
+-- an infinity lies beyond every whole number
+pub inf-lt : {y : Float} {w : ℤ} (s : Bool) → Worth y w → lt (inf s) y ≡ s
 unfolding lt
-lt-below (sized {s} {e} {a} h) (sized {s = t} {e = d} {a = b} k) =
-    over (λ (p q : ℕ). below s p t q) a (down e) b (down d) h k
-    ∙ below-times s t a b (down e * down d) (mul-pos (down-pos e) (down-pos d))
+inf-lt s (exactly h) = refl
+
+pub lt-inf : {y : Float} {w : ℤ} (s : Bool) → Worth y w → lt y (inf s) ≡ not s
+unfolding lt
+lt-inf s (exactly h) = refl
+
+lt-below : {x y : Float} {s t : Bool} {a b : ℕ} → Sized x s a → Sized y t b → lt x y ≡ below s a t b
+lt-below (sized {s} {m} {e} {a} h) (sized {s = t} {e = d} {a = b} k) =
+    lt-sized s m e (sized k) ∙ ap (λ (n : ℕ). below s n t (b * down e)) h ∙ below-times s t a b (down e) (down-pos e)
 
 pub lt-worth : {x y : Float} {z w : ℤ} → Worth x z → Worth y w → lt x y ≡ ltZ z w
 lt-worth h k = go (worth→value h) (worth→value k)

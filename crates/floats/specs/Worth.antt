@@ -1,7 +1,7 @@
 -- Floats that are whole numbers, and the tests of an estimate.
 use mathlib.Core.Path.{_≡_}
 use mathlib.Core.Bool.{Bool, true, false}
-use Prim.Native.Nat.{ℕ, _*_}
+use Prim.Native.Nat.{ℕ, _*_, _≤_}
 use lib.IntN.{ℤ, pos, negℤ, _*ℤ_}
 use lib.Ieee.{Float, fin, Format, up, down, lt, ne, ofInt, ofBits}
 
@@ -14,7 +14,12 @@ signed true a = negℤ (pos a)
 pub data Worth : Float → ℤ → Type 0 where
   exactly : {s : Bool} {m : ℕ} {e z : ℤ} → signed s (m * up e) ≡ z *ℤ pos (down e) → Worth (fin s m e) z
 
--- what the tests `x != x`, `x < 0.0` and `x > j` leave where none of them refuses x
+-- The float is a finite number from 0 to j: times `down e` it is a whole number a from 0 to j × down e. A NaN and an infinity are none, and −0.0 is 0.
+pub data FiniteUpTo (j : ℕ) : Float → Type 0 where
+  finite : {s : Bool} {m a : ℕ} {e : ℤ} → signed s (m * up e) ≡ pos a → a ≤ j * down e → FiniteUpTo j (fin s m e)
+
+-- What the tests `x != x`, `x < 0.0` and `x > j` leave where none of them refuses x: for a j up to 2 ^ prec f the finite
+-- numbers from 0 to j, as `finite-of-passes` and `passes-of-finite` show.
 pub record Passes (f : Format) (j : ℕ) (x : Float) : Type 0 where
   pub known : ne x x ≡ false
   pub low : lt x (ofBits f 0) ≡ false

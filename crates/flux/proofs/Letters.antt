@@ -61,7 +61,7 @@ module _ (r : Road) (ok : Accepted r) (a b : ℕ) where
           absurd (omega arith)
 
 module _ (r : Road) (ok : Accepted r) (a b : ℕ) where
-  lettered-full : r .critical < b → Dec (r .free * a ≤ r .wave * (r .jam - b)) → Lettered r a b
+  lettered-full : r .critical < b → Dec (r .free * a ≤ r .wave * (r .jam - b)) → Lettered r a b (letter r a b)
   lettered-full h (yes d) =
       let e = full-D r a b h d in
       record {
@@ -80,7 +80,7 @@ module _ (r : Road) (ok : Accepted r) (a b : ℕ) where
         D = (λ d. absurd (let q = sym e ∙ d in omega arith), λ d. absurd (n (d .1)));
       }
 
-  lettered-free : b ≤ r .critical → Dec (a ≤ r .critical) → Lettered r a b
+  lettered-free : b ≤ r .critical → Dec (a ≤ r .critical) → Lettered r a b (letter r a b)
   lettered-free h (yes d) =
       let e = free-D r a b h d in
       record {
@@ -99,16 +99,16 @@ module _ (r : Road) (ok : Accepted r) (a b : ℕ) where
         D = (λ d. absurd (let q = sym e ∙ d in omega arith), λ d. absurd (n (d .0)));
       }
 
-  lettered-by : Dec (b ≤ r .critical) → Lettered r a b
+  lettered-by : Dec (b ≤ r .critical) → Lettered r a b (letter r a b)
   lettered-by (yes h) = lettered-free h (decLe a (r .critical))
   lettered-by (no n) = lettered-full (lt-of-not-le n) (decLe (r .free * a) (r .wave * (r .jam - b)))
 
   -- each pair of densities has exactly one letter, and it has it exactly when it lies in that letter's region
-  pub one-letter : Lettered r a b
+  pub one-letter : Lettered r a b (letter r a b)
   one-letter = lettered-by (decLe b (r .critical))
 
   -- letter by letter the flow numerator is the published one
-  pub published : PublishedFlow r a b
+  pub published : PublishedFlow r a b (letter r a b)
   unfolding numerator
   published = record { W = wave; L = full; D = free }
     where

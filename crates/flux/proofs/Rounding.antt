@@ -8,6 +8,11 @@ use Rattle.road.specs.declared.Road.{Road}
 use Rattle.flux.specs.Face.{units}
 
 module _ (r : Road) (positive : 0 < r .divisor) where
+  -- a multiple of the divisor passes through whole
+  pub units-shift : (f k : ℕ) → units r (f + k * r .divisor) ≡ units r f + k
+  unfolding units
+  units-shift f k = add-mul-div-right f k positive
+
   -- a larger numerator moves no fewer units
   pub units-monotone : {f g : ℕ} → f ≤ g → units r f ≤ units r g
   unfolding units
@@ -16,11 +21,6 @@ module _ (r : Road) (positive : 0 < r .divisor) where
   pub units-zero : units r 0 ≡ 0
   unfolding units
   units-zero = zero-div (r .divisor)
-
-  -- a multiple of the divisor passes through whole
-  pub units-shift : (f k : ℕ) → units r (f + k * r .divisor) ≡ units r f + k
-  unfolding units
-  units-shift f k = add-mul-div-right f k positive
 
   -- two rounding errors differ by less than the divisor
   pub units-spread : (f g : ℕ) → f + units r g * r .divisor < g + units r f * r .divisor + r .divisor

@@ -13,12 +13,14 @@ use Rattle.road.specs.declared.refusal.Refusal.{Refusal}
 use Rattle.road.proofs.Table.{nothing-refused}
 use Rattle.scheme.specs.Rounded.{entered, left}
 use Rattle.scheme.specs.Settling.{after, settles, settleSteps, settleCells}
+use Rattle.scheme.specs.ByFaces.{RunByFaces}
 use Rattle.scheme.specs.Calls.{Ran, SettledTo}
 use Rattle.scheme.specs.declared.many_steps.Totals.{Totals}
 use Rattle.scheme.specs.declared.settling.Settled.{Settled}
 use Rattle.scheme.proofs.Promises.{round-range, round-balance, round-near, settle-range, settle-length}
 use Rattle.scheme.proofs.Runs.{roundRun-length, exactRun-length}
 use Rattle.scheme.proofs.Settlement.{least-still}
+use Rattle.scheme.proofs.ByFaces.{run-by-faces, after-by-faces, exact-run-by-faces}
 use Rattle.forecast.specs.declared.forecasting.ForecastAnswer.{ForecastAnswer}
 use Rattle.forecast.specs.declared.forecasting.ForecastAnswer.the-variants as F
 use Rattle.forecast.specs.declared.settling.SettleAnswer.{SettleAnswer}
@@ -43,10 +45,17 @@ module _ (r : Road) (cells ups downs : List ℕ) (t : ℕ) (out : List ℕ) wher
         after-steps = ran .cells;
         long = ap length (ran .cells) ∙ roundRun-length r ups downs cells;
         exact-long = exactRun-length r 1 ups downs cells;
+        exact-steps = exact-run-by-faces r ok 1 ups downs cells (c .ups-long ∙ sym (c .downs-long));
         within = rw (ran .cells) (round-range r ok ups downs cells (c .cells-below));
         balanced = rw (ran .cells, ran .entered, ran .left) (round-balance r ok ups downs cells);
         near = rw (ran .cells, ← c .ups-long) (round-near r ok ups downs cells (c .ups-long ∙ sym (c .downs-long)));
       }
+
+  -- and demand 2 of it
+  by-faces : forecastRefusal r cells ups downs t (length out) .number ≡ 0 → (next : List ℕ) (d : Totals) → Ran r ups downs cells next d → RunByFaces r ups downs cells next (d .entered) (d .left)
+  by-faces e next d ran =
+      let c = checked-of r cells ups downs t (length out) e in
+      rw (ran .cells, ran .entered, ran .left) (run-by-faces r (c .accepted) ups downs cells (c .ups-long ∙ sym (c .downs-long)))
 
   -- refused: the number and place of the table, and the former contents
   pub refused : (f : Refusal) → f ≡ forecastRefusal r cells ups downs t (length out) → (f .number ≡ 0 → ⊥) → Forecasts r cells ups downs t out out (F.Refused f)
@@ -59,6 +68,7 @@ module _ (r : Road) (cells ups downs : List ℕ) (t : ℕ) (out : List ℕ) wher
         output = rw no refl;
         judged = rw (← e) at (forecast-judged r cells ups downs t (length out));
         demand3 = λ d q. let z : _≡_ {A = ℕ} 0 1 = cc q in absurd (omega arith);
+        by-faces = λ d q. let z : _≡_ {A = ℕ} 0 1 = cc q in absurd (omega arith);
       }
 
   -- accepted: the run's sums and cells
@@ -74,6 +84,7 @@ module _ (r : Road) (cells ups downs : List ℕ) (t : ℕ) (out : List ℕ) wher
         output = rw yes-it-is (ran .cells);
         judged = rw nothing at (forecast-judged r cells ups downs t (length out));
         demand3 = λ c q. rw (same-totals q) at (demand3 e next d ran);
+        by-faces = λ c q. rw (same-totals q) at (by-faces e next d ran);
       }
 
 same-settled : {d e : Settled} → _≡_ {A = SettleAnswer} (S.Done d) (S.Done e) → d ≡ e
@@ -85,9 +96,11 @@ module _ (r : Road) (cells : List ℕ) (up down t : ℕ) (out : List ℕ) where
   unfolding settleCells
   settlement e next d ran =
       let c = settle-checked-of r cells up down t (length out) e in
+      let reached : next ≡ after r up down (d .steps) cells = ran .cells ∙ ap (λ (k : ℕ). after r up down k cells) (sym (ran .steps)) in
       record {
         least = rw (ran .settled, ran .steps) (least-still r up down t cells);
-        state = ran .cells ∙ ap (λ (k : ℕ). after r up down k cells) (sym (ran .steps));
+        state = reached;
+        by-faces = rw reached (after-by-faces r (c .accepted) up down (d .steps) cells);
         long = ap length (ran .cells) ∙ settle-length r up down t cells;
         within = rw (ran .cells) (settle-range r (c .accepted) up down t cells (c .cells-below));
       }

@@ -15,6 +15,7 @@ use Rattle.checks.specs.Values.{firstAbove, anyAbove}
 use Rattle.checks.specs.Places.{Placed}
 use Rattle.scheme.specs.Sums.{sum, distance, times, Below}
 use Rattle.scheme.specs.Rounded.{roundRun, entered, left}
+use Rattle.scheme.specs.ByFaces.{RunByFaces, ExactRunByFaces}
 use Rattle.scheme.specs.Exact.{exactRun}
 use Rattle.scheme.specs.declared.many_steps.Totals.{Totals}
 use Rattle.forecast.specs.declared.forecasting.ForecastAnswer.{ForecastAnswer}
@@ -105,6 +106,8 @@ pub record Demand3 (r : Road) (cells ups downs : List ℕ) (t : ℕ) (next : Lis
   -- n of them, and as many exact ones
   pub long : length next ≡ length cells
   pub exact-long : length (exactRun r 1 ups downs cells) ≡ length cells
+  -- the exact scheme is what document 01 says, with no subtraction cut off
+  pub exact-steps : ExactRunByFaces r 1 ups downs cells (exactRun r 1 ups downs cells)
   -- every density from 0 to jam
   pub within : Below (r .jam) next
   -- units at the start plus entered equal units at the end plus left
@@ -119,3 +122,5 @@ pub record Forecasts (r : Road) (cells ups downs : List ℕ) (t : ℕ) (out next
   pub output : next ≡ forecastCells r cells ups downs t out
   pub judged : ForecastJudged r cells ups downs t (length out) (refused (meaning a .number) (meaning a .place))
   pub demand3 : (d : Totals) → a ≡ Done d → Demand3 r cells ups downs t next (d .entered) (d .left)
+  -- demand 2: "a step moves the whole units of each face's flow", told face by face, with entered and left
+  pub by-faces : (d : Totals) → a ≡ Done d → RunByFaces r ups downs cells next (d .entered) (d .left)

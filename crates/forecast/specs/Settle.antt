@@ -4,7 +4,7 @@ use mathlib.Core.Bool.{Bool, false}
 use mathlib.Core.List.{List, [], _∷_, _++_}
 use Prim.Native.Nat.{ℕ, _≤_}
 use lib.Dec.{eqb}
-use lib.ListN.{length}
+use lib.ListN.{length, replicate}
 use Rattle.road.specs.Choice.{pick}
 use Rattle.road.specs.Table.{Row, row, judge, refused, Judged}
 use Rattle.road.specs.Ceilings.{cellsCeiling, horizonCeiling}
@@ -15,6 +15,8 @@ use Rattle.checks.specs.Lists.{badCells, badHorizon, badOutput}
 use Rattle.checks.specs.Values.{pairRows}
 use Rattle.checks.specs.Places.{Placed}
 use Rattle.scheme.specs.Sums.{Below}
+use Rattle.scheme.specs.Rounded.{entered, left}
+use Rattle.scheme.specs.ByFaces.{RunByFaces}
 use Rattle.scheme.specs.Settling.{after, settles, settleSteps, settleCells, LeastStill}
 use Rattle.scheme.specs.declared.settling.Settled.{Settled}
 use Rattle.forecast.specs.declared.settling.SettleAnswer.{SettleAnswer}
@@ -86,10 +88,17 @@ abbrev pub SettleJudged : Road → List ℕ → ℕ → ℕ → ℕ → ℕ → 
 SettleJudged r cells up down t out f =
     Judged (settleRows r cells up down t out) (SettleChecked r cells up down t out) (Placed r cells (up ∷ []) (down ∷ [])) f
 
+-- k steps of one end pair, told face by face: from the cells to the state handed back, with the units over face 0 and face n
+abbrev pub PairByFaces : Road → ℕ → ℕ → ℕ → List ℕ → List ℕ → Type 0
+PairByFaces r up down k cells next =
+    RunByFaces r (replicate k up) (replicate k down) cells next
+    (entered r (replicate k up) (replicate k down) cells) (left r (replicate k up) (replicate k down) cells)
+
 -- what an accepted run reports and hands back: the least k below T such that step k+1 is still, or T; the state after those steps, in range
 pub record Settlement (r : Road) (cells : List ℕ) (up down t : ℕ) (next : List ℕ) (s : Settled) : Type 0 where
   pub least : LeastStill r up down t cells (s .settled) (s .steps)
   pub state : next ≡ after r up down (s .steps) cells
+  pub by-faces : PairByFaces r up down (s .steps) cells next
   pub long : length next ≡ length cells
   pub within : Below (r .jam) next
 

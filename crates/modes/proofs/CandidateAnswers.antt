@@ -19,10 +19,10 @@ use Rattle.road.proofs.Table.{none-holds, nothing-refused, row-returned, passin
 use Rattle.road.proofs.Acceptance.{road-passing}
 use Rattle.road.proofs.Choice.{or-left, or-right, neither, from-low, to-high, inside}
 use Rattle.road.proofs.Parts.{road-first}
-use Rattle.floats.specs.Worth.{Worth, Passes}
+use Rattle.floats.specs.Worth.{Worth, FiniteUpTo, Passes}
 use Rattle.floats.proofs.Round.{ofInt-worth}
 use Rattle.floats.proofs.Row.{row-exact}
-use Rattle.floats.proofs.Within.{within}
+use Rattle.floats.proofs.Within.{within, finite-of-passes, passes-of-finite}
 use Rattle.floats.proofs.Sum.{add-plain}
 use Rattle.modes.specs.declared.candidates.CandidateResult.{CandidateResult}
 use Rattle.modes.specs.declared.candidates.CandidateAnswer.{CandidateAnswer}
@@ -34,18 +34,38 @@ use Rattle.modes.specs.Candidate as C
 use Rattle.modes.proofs.Sizes.{largest, row-small}
 use Rattle.modes.proofs.Coefficients.{left-small, own-small, right-small, constant-small, row-split}
 
--- an estimate that the tests let through
-pub passes-of : (j : ℕ) (x : Float) → C.badEstimate j x ≡ false → Passes binary64 j x
+-- what the three tests of an estimate leave, and what they mean on an accepted road
+passes-of : (j : ℕ) (x : Float) → C.badEstimate j x ≡ false → Passes binary64 j x
 passes-of j x e =
     let low = lt x (ofBits binary64 0) in
     let high = lt (ofInt binary64 (pos j)) x in
     let rest = or-right (ne x x) (or low high) e in
     record { known = or-left (ne x x) (or low high) e; low = or-left low high rest; high = or-right low high rest }
 
-pub of-passes : (j : ℕ) (x : Float) → Passes binary64 j x → C.badEstimate j x ≡ false
+of-passes : (j : ℕ) (x : Float) → Passes binary64 j x → C.badEstimate j x ≡ false
 of-passes j x p =
     neither (ne x x) (or (lt x (ofBits binary64 0)) (lt (ofInt binary64 (pos j)) x)) (p .known)
     (neither (lt x (ofBits binary64 0)) (lt (ofInt binary64 (pos j)) x) (p .low) (p .high))
+
+module _ (r : Road) (ok : Accepted r) (x : Float) where
+  exact-jam : r .jam ≤ 2 ^ prec binary64
+  exact-jam = le-trans (ok .jam-high) (lit≤ tt)
+
+  pub finite-of : C.badEstimate (r .jam) x ≡ false → FiniteUpTo (r .jam) x
+  finite-of e = finite-of-passes exact-jam (passes-of (r .jam) x e)
+
+  pub of-finite : FiniteUpTo (r .jam) x → C.badEstimate (r .jam) x ≡ false
+  of-finite h = of-passes (r .jam) x (passes-of-finite exact-jam h)
+
+  -- a whole estimate of an accepted call is a natural up to jam
+  pub whole-estimate : (z : ℤ) → FiniteUpTo (r .jam) x → Worth x z → (n : ℕ) × (z ≡ pos n) × (n ≤ r .jam)
+  whole-estimate z h w = within {f = binary64} exact-jam w (passes-of-finite exact-jam h)
+
+  natural : (n : ℕ) → FiniteUpTo (r .jam) x → Worth x (pos n) → n ≤ r .jam
+  natural n h w =
+      let (k, e, low) = whole-estimate (pos n) h w in
+      let same : n ≡ k = ap natAbs e in
+      omega arith
 
 -- the place of 14
 estimate-placed : (a b c : Bool) → or a (or b c) ≡ true → EstimatePlaced a b c (pick a 1 (pick b 2 3))
@@ -74,13 +94,14 @@ module _ (r : Road) (mode : ℕ) (left own right : Float) where
       let j = r .jam in
       let any : C.badEstimates j left own right ≡ false = no 5 (lit< tt) in
       let rest = or-right (C.badEstimate j left) (or (C.badEstimate j own) (C.badEstimate j right)) any in
+      let ok = road-first r (C.estimateRows r mode left own right) e in
       record {
-        accepted = road-first r (C.estimateRows r mode left own right) e;
+        accepted = ok;
         mode-low = from-low 1 7 mode (no 4 (lit< tt));
         mode-high = to-high 1 7 mode (no 4 (lit< tt));
-        left-passes = passes-of j left (or-left (C.badEstimate j left) (or (C.badEstimate j own) (C.badEstimate j right)) any);
-        own-passes = passes-of j own (or-left (C.badEstimate j own) (C.badEstimate j right) rest);
-        right-passes = passes-of j right (or-right (C.badEstimate j own) (C.badEstimate j right) rest);
+        left-finite = finite-of r ok left (or-left (C.badEstimate j left) (or (C.badEstimate j own) (C.badEstimate j right)) any);
+        own-finite = finite-of r ok own (or-left (C.badEstimate j own) (C.badEstimate j right) rest);
+        right-finite = finite-of r ok right (or-right (C.badEstimate j own) (C.badEstimate j right) rest);
       }
 
   -- and the other way round: no refusal otherwise
@@ -92,10 +113,10 @@ module _ (r : Road) (mode : ℕ) (left own right : Float) where
         inside 1 7 mode (c .mode-low) (c .mode-high),
         (
           neither (C.badEstimate (r .jam) left) (or (C.badEstimate (r .jam) own) (C.badEstimate (r .jam) right))
-              (of-passes (r .jam) left (c .left-passes))
+              (of-finite r (c .accepted) left (c .left-finite))
               (neither (C.badEstimate (r .jam) own) (C.badEstimate (r .jam) right)
-              (of-passes (r .jam) own (c .own-passes))
-              (of-passes (r .jam) right (c .right-passes))),
+              (of-finite r (c .accepted) own (c .own-finite))
+              (of-finite r (c .accepted) right (c .right-finite))),
           tt,
         ),
       ))
@@ -109,15 +130,19 @@ module _ (r : Road) (mode : ℕ) (left own right : Float) where
       candidate-checked-of
       candidate-checked-passes
 
-  -- a whole estimate of an accepted call is a natural up to jam
-  pub whole-estimate : Accepted r → (x : Float) (z : ℤ) → Passes binary64 (r .jam) x → Worth x z → (n : ℕ) × (z ≡ pos n) × (n ≤ r .jam)
-  whole-estimate ok x z p w = within (le-trans (ok .jam-high) (lit≤ tt)) w p
-
-  natural : Accepted r → (x : Float) (n : ℕ) → Passes binary64 (r .jam) x → Worth x (pos n) → n ≤ r .jam
-  natural ok x n p w =
-      let (k, e, h) = whole-estimate ok x (pos n) p w in
-      let same : n ≡ k = ap natAbs e in
-      omega arith
+  -- each number of the row is exactly the whole one
+  row-exactly : C.CandidateChecked r mode left own right → C.RowWhole r mode
+  unfolding C.rowFor
+  row-exactly c =
+      let low = c .mode-low in
+      let high = c .mode-high in
+      let ok = c .accepted in
+      record {
+        left = ofInt-worth binary64 (leftCoefficient r mode) (le-trans (left-small mode low high r ok) (lit≤ tt));
+        own = ofInt-worth binary64 (ownCoefficient r mode) (le-trans (own-small mode low high r ok) (lit≤ tt));
+        right = ofInt-worth binary64 (rightCoefficient r mode) (le-trans (right-small mode low high r ok) (lit≤ tt));
+        constant = ofInt-worth binary64 (constantOf r mode) (le-trans (constant-small mode low high r ok) (lit≤ tt));
+      }
 
   -- the numerator is never −0.0: the last addition is that of a whole constant
   never-minus-zero : C.CandidateChecked r mode left own right → (e : ℤ) → C.candidateNumerator r mode left own right ≡ fin true 0 e → ⊥
@@ -132,9 +157,9 @@ module _ (r : Road) (mode : ℕ) (left own right : Float) where
         → natAbs (pos l) * natAbs k₁ + natAbs (pos o) * natAbs k₂ + natAbs (pos t) * natAbs k₃ + natAbs k₀ ≤ 2 ^ prec binary64
     total k₁ k₂ k₃ k₀ b₁ b₂ b₃ b₀ =
         let high = c .accepted .jam-high in
-        let p₁ = mul-le-mul (le-trans (natural (c .accepted) left l (c .left-passes) l-is) high) b₁ in
-        let p₂ = mul-le-mul (le-trans (natural (c .accepted) own o (c .own-passes) o-is) high) b₂ in
-        let p₃ = mul-le-mul (le-trans (natural (c .accepted) right t (c .right-passes) t-is) high) b₃ in
+        let p₁ = mul-le-mul (le-trans (natural r (c .accepted) left l (c .left-finite) l-is) high) b₁ in
+        let p₂ = mul-le-mul (le-trans (natural r (c .accepted) own o (c .own-finite) o-is) high) b₂ in
+        let p₃ = mul-le-mul (le-trans (natural r (c .accepted) right t (c .right-finite) t-is) high) b₃ in
         omega arith
 
     same-row : C.candidateNumerator r mode left own right ≡ ofInt binary64 (rowValue r mode l o t)
@@ -149,7 +174,7 @@ module _ (r : Road) (mode : ℕ) (left own right : Float) where
         l-is o-is t-is (le-trans b₁ (lit≤ tt)) (le-trans b₂ (lit≤ tt)) (le-trans b₃ (lit≤ tt))
         (total (leftCoefficient r mode) (ownCoefficient r mode) (rightCoefficient r mode) (constantOf r mode) b₁ b₂ b₃ b₀)
         ∙ ap (ofInt binary64) (sym (row-split r ok mode (c .mode-low) (c .mode-high) l o t
-        (natural ok left l (c .left-passes) l-is) (natural ok own o (c .own-passes) o-is) (natural ok right t (c .right-passes) t-is)))
+        (natural r ok left l (c .left-finite) l-is) (natural r ok own o (c .own-finite) o-is) (natural r ok right t (c .right-finite) t-is)))
 
     pub whole-row : C.Whole (C.candidateNumerator r mode left own right) (rowValue r mode l o t)
     whole-row = record {
@@ -161,7 +186,7 @@ module _ (r : Road) (mode : ℕ) (left own right : Float) where
         small =
             let ok = c .accepted in
             row-small r ok l o t
-            (natural ok left l (c .left-passes) l-is) (natural ok own o (c .own-passes) o-is) (natural ok right t (c .right-passes) t-is)
+            (natural r ok left l (c .left-finite) l-is) (natural r ok own o (c .own-finite) o-is) (natural r ok right t (c .right-finite) t-is)
             mode (c .mode-low) (c .mode-high)
 
 -- what an accepted answer carries is what it says
@@ -182,6 +207,7 @@ module _ (r : Road) (mode : ℕ) (left own right : Float) where
         answer = rw no (ap Refused e);
         means = rw no (ap (λ (g : Refusal). C.meaning (Refused g)) e);
         judged = rw (← e) at (candidate-judged r mode left own right);
+        row-whole = λ p q. let z : _≡_ {A = ℕ} 0 1 = cc q in absurd (omega arith);
         exact = λ p q. let z : _≡_ {A = ℕ} 0 1 = cc q in absurd (omega arith);
         plain = λ p q. let z : _≡_ {A = ℕ} 0 1 = cc q in absurd (omega arith);
       }
@@ -198,6 +224,7 @@ module _ (r : Road) (mode : ℕ) (left own right : Float) where
         answer = rw yes-it-is (λ i. Done (record { numerator = is i }));
         means = rw yes-it-is (λ i. record { number = sym nothing i .number; place = sym nothing i .place; value = is i });
         judged = rw nothing at (candidate-judged r mode left own right);
+        row-whole = λ p q. row-exactly r mode left own right checked;
         exact = λ p q l o t l-is o-is t-is. rw (sym (same-numerator q) ∙ is) (whole-row r mode left own right checked l o t l-is o-is t-is);
         plain = λ p q. rw (sym (same-numerator q) ∙ is) (never-minus-zero r mode left own right checked);
       }

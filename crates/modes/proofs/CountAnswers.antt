@@ -1,23 +1,24 @@
 -- The word count's answers, refused and accepted, and demand 1.
-use mathlib.Core.Path.{_≡_, refl, sym, ap}
-use mathlib.Core.Bool.{Bool, true, false}
-use mathlib.Core.List.{[], _∷_}
+use mathlib.Core.Path.{_≡_, _∙_, sym, ap}
+use mathlib.Core.Bool.{true, false}
 use Prim.Native.Nat.{ℕ, _≤_}
-use lib.Dec.{eqb, ltb, lit<}
+use native.Mathlib.Omega.{arith}
+use lib.Dec.{eqb, lit<}
 use borrow.Author.Tests.{eq-eqb, ne-eqb, ltb-false, le-ltb}
 use Rattle.road.specs.Ceilings.{countCeiling}
-use Rattle.road.specs.Table.{row, judge, orIf, passed}
+use Rattle.road.specs.Table.{passed}
 use Rattle.road.specs.declared.refusal.Refusal.{Refusal}
-use Rattle.road.proofs.Table.{none-holds, all-pass, nothing-refused, judged-rows}
+use Rattle.road.proofs.Table.{none-holds, all-pass, nothing-refused, no-place, judged-rows}
 use Rattle.modes.specs.Words.{wordCount}
 use Rattle.modes.specs.Count.{countRows, countRefusal, countAnswer, countMeaning, meaning, CountJudged, CountsWords}
+use Rattle.modes.specs.declared.counting.WordCount.{WordCount}
+use Rattle.modes.specs.declared.counting.CountAnswer.{CountAnswer}
 use Rattle.modes.specs.declared.counting.CountAnswer.the-variants.{Done, Refused}
+use Rattle.modes.proofs.WordList.{words-counted}
 
--- 15 reports no place
-no-place : (c : Bool) → judge (row c 15 0 ∷ []) .place ≡ 0
-unfolding orIf
-no-place true = refl
-no-place false = refl
+-- what an accepted answer carries is what it says
+same-words : {words : ℕ} {c : WordCount} → _≡_ {A = CountAnswer} (Done (record { words = words })) (Done c) → words ≡ c .words
+same-words e = ap (λ (x : WordCount). x .words) (cc e)
 
 module _ (n : ℕ) where
   -- nothing is refused exactly up to the ceiling
@@ -32,7 +33,7 @@ module _ (n : ℕ) where
   -- demand 1 of the judgement
   count-judged : CountJudged n (countRefusal n)
   unfolding countRefusal
-  count-judged = judged-rows (countRows n) tt (λ g. g .place ≡ 0) (no-place (ltb countCeiling n)) count-within count-passes
+  count-judged = judged-rows (countRows n) tt (λ g. g .place ≡ 0) (no-place (countRows n) tt) count-within count-passes
 
   pub refused : (f : Refusal) → f ≡ countRefusal n → (f .number ≡ 0 → ⊥) → CountsWords n (Refused f)
   unfolding countAnswer countMeaning
@@ -42,6 +43,7 @@ module _ (n : ℕ) where
         answer = rw no (ap Refused e);
         means = rw no (ap (λ (g : Refusal). meaning (Refused g)) e);
         judged = rw (← e) at count-judged;
+        counted = λ c q. let z : _≡_ {A = ℕ} 0 1 = cc q in absurd (omega arith);
       }
 
   pub done : countRefusal n .number ≡ 0 → (words : ℕ) → words ≡ wordCount n → CountsWords n (Done (record { words = words }))
@@ -53,4 +55,5 @@ module _ (n : ℕ) where
         answer = rw yes-it-is (λ i. Done (record { words = same i }));
         means = rw yes-it-is (λ i. record { number = sym nothing i .number; place = sym nothing i .place; words = same i });
         judged = rw nothing at count-judged;
+        counted = λ c q. rw (sym (same-words q) ∙ same) (words-counted n (count-within e));
       }

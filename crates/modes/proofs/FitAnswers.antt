@@ -1,10 +1,11 @@
 -- The fit test's judgement and its answers: which inputs no row refuses, what is reported of them, and what of the others.
-use mathlib.Core.Path.{_≡_, _∙_, refl, sym, ap}
+use mathlib.Core.Path.{_≡_, _∙_, refl, sym, ap, subst}
 use mathlib.Core.Bool.{true, false}
 use mathlib.Core.List.{List, _∷_}
 use Prim.Native.Nat.{ℕ, _+_, _≤_}
 use lib.Dec.{eqb, lit<}
 use lib.ListN.{length}
+use native.Mathlib.Omega.{arith}
 use borrow.Author.Tests.{eq-eqb, ne-eqb, ltb-false}
 use Rattle.road.specs.Ceilings.{cellsCeiling}
 use Rattle.road.specs.Table.{row, passed}
@@ -20,11 +21,17 @@ use Rattle.checks.proofs.Rows.{cells-low, cells-high, cells-pass}
 use Rattle.scheme.specs.Word.{wordOf}
 use Rattle.modes.specs.Judging.{pairWordRows, fitShapeRows, fitRows, fitRefusal}
 use Rattle.modes.specs.Places.{PairWordPlaced}
-use Rattle.modes.specs.Fit.{firstMisfit, allHold, misfitFace, fitAnswer, meaning, fitMeaning, fitShapeRefusal, FitChecked, FitJudged, Compared, Fits}
+use Rattle.modes.specs.Fit.{firstMisfit, allHold, misfitFace, fitAnswer, meaning, fitMeaning, fitShapeRefusal, FitChecked, FitJudged, Compared, FitState, Fits, AnswersFit}
 use Rattle.modes.specs.declared.fitting.FitResult.{FitResult}
+use Rattle.modes.specs.declared.fitting.FitAnswer.{FitAnswer}
 use Rattle.modes.specs.declared.fitting.FitAnswer.the-variants.{Done, Refused}
 use Rattle.modes.proofs.WordRow.{word-long, word-legal, pair-word-passes, pair-word-placed}
 use Rattle.modes.proofs.Misfits.{own-long, same-word, other-word}
+use Rattle.modes.proofs.Fitness.{fit-state}
+
+-- what an accepted answer carries is what it says
+same-result : {f g : FitResult} → _≡_ {A = FitAnswer} (Done f) (Done g) → f ≡ g
+same-result e = cc
 
 module _ (r : Road) (cells : List ℕ) (up down : ℕ) (word : List ℕ) where
   -- an input that nothing is refused of
@@ -95,6 +102,7 @@ module _ (r : Road) (cells : List ℕ) (up down : ℕ) (word : List ℕ) where
         answer = rw no (ap Refused e);
         means = rw no (ap (λ (g : Refusal). meaning (Refused g)) e);
         judged = rw (← e) at fit-judged;
+        state = λ g q. let z : _≡_ {A = ℕ} 0 1 = cc q in absurd (omega arith);
       }
 
   -- accepted: the comparison
@@ -107,4 +115,12 @@ module _ (r : Road) (cells : List ℕ) (up down : ℕ) (word : List ℕ) where
         answer = rw yes-it-is (λ i. Done (record { holds = c .holds i; face = c .face i }));
         means = rw yes-it-is (λ i. record { number = sym nothing i .number; place = sym nothing i .place; holds = c .holds i; face = c .face i });
         judged = rw nothing at fit-judged;
+        state = λ g q. let k = checked-of e in subst (FitState r cells up down word) (same-result q) (fit-state r cells up down word (k .accepted) (k .word-long) f c);
       }
+
+  -- of a checked input whose every face holds, the test is made and says so
+  pub answers-fit : FitChecked r cells up down word → allHold r cells up down word ≡ true → (a : FitAnswer) → Fits r cells up down word a → AnswersFit a
+  unfolding fitAnswer
+  answers-fit checked holds a fits =
+      let none : fitRefusal r cells up down word .number ≡ 0 = ap (λ (f : Refusal). f .number) (checked-passes checked) in
+      (record { holds = allHold r cells up down word; face = misfitFace r cells up down word }, rw (eq-eqb _ 0 none) at (fits .answer), holds)

@@ -4,19 +4,26 @@ use mathlib.Core.Bool.{true, false, true≢false}
 use mathlib.Core.Logic.{_↔_}
 use mathlib.Core.List.{List}
 use Prim.Native.Nat.{ℕ, _+_, _<_}
+use native.Mathlib.Numerals.{add-one}
 use native.Mathlib.Omega.{arith}
 use lib.ListN.{length}
 use Rattle.road.specs.Judgement.{Accepted}
 use Rattle.road.specs.declared.Road.{Road}
+use Rattle.flux.proofs.Letters.{one-letter}
 use Rattle.scheme.specs.Word.{wordOf}
-use Rattle.scheme.proofs.Faces.{same-words, words-same}
+use Rattle.scheme.proofs.Faces.{word-letter, same-words, words-same}
 use Rattle.modes.specs.Words.{legal}
-use Rattle.modes.specs.Fit.{firstMisfit, allHold, misfitFace}
-use Rattle.modes.specs.States.{LowestMisfit, OwnWord}
+use Rattle.modes.specs.Fit.{firstMisfit, allHold, misfitFace, Compared, LetteredWord, LowestMisfit, FitState}
+use Rattle.modes.specs.Reading.{OwnWord}
+use Rattle.modes.specs.declared.fitting.FitResult.{FitResult}
 use Rattle.modes.proofs.Legal.{word-legal}
 use Rattle.modes.proofs.Misfits.{misfit-bound, misfit-past, misfit-at, own-long, same-word}
 
 module _ (r : Road) (cells : List ℕ) (up down : ℕ) where
+  -- the letters of the state's word stand in their regions
+  pub word-lettered : Accepted r → LetteredWord r cells up down (wordOf r up down cells)
+  word-lettered ok k h = rw (word-letter r up down cells k h, add-one) (one-letter r ok _ _)
+
   module _ (word : List ℕ) where
     -- all hold exactly when the word is the state's own
     pub all-hold : (allHold r cells up down word ≡ true) ↔ (word ≡ wordOf r up down cells)
@@ -32,6 +39,16 @@ module _ (r : Road) (cells : List ℕ) (up down : ℕ) where
         let other : firstMisfit own word ≡ length own → ⊥ = λ q. true≢false (sym (same-word own word same q) ∙ e) in
         let low : firstMisfit own word < length own = omega (arith, misfit-bound own word same) in
         rw e record { inside = omega arith; differs = misfit-at own word same low; lower = misfit-past own word same }
+
+    -- what the comparison of the faces reports, of a word of the right length
+    pub fit-state : Accepted r → length word ≡ length cells + 1 → (f : FitResult) → Compared r cells up down word f → FitState r cells up down word f
+    unfolding misfitFace
+    fit-state ok long f c = record {
+      lettered = word-lettered ok;
+      all = rw (c .holds) all-hold;
+      no-face = λ q. c .face ∙ rw (sym (c .holds) ∙ q) refl;
+      lowest = λ q. rw (c .face) (lowest-misfit long (sym (c .holds) ∙ q));
+    }
 
   -- the state's word is legal, and of all words the one that fits
   pub own-word : Accepted r → OwnWord r cells up down (wordOf r up down cells)

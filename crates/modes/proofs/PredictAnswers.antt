@@ -6,6 +6,7 @@ use Prim.Native.Nat.{ℕ, _≤_}
 use lib.Dec.{eqb, lit<}
 use lib.IntN.{ℤ}
 use lib.ListN.{length}
+use native.Mathlib.Omega.{arith}
 use borrow.Author.Tests.{eq-eqb, ne-eqb, ltb-false}
 use Rattle.road.specs.Ceilings.{cellsCeiling}
 use Rattle.road.specs.Table.{row, passed}
@@ -23,6 +24,7 @@ use Rattle.modes.specs.Places.{PairWordPlaced}
 use Rattle.modes.specs.Prediction.{predictAnswer, predicted, predictShapeRefusal, PredictChecked, PredictJudged, Predicts}
 use Rattle.modes.specs.declared.prediction.PredictAnswer.the-variants.{Done, Refused}
 use Rattle.modes.proofs.WordRow.{word-long, word-legal, pair-word-passes, pair-word-placed}
+use Rattle.modes.proofs.PredictState.{predict-state}
 
 module _ (r : Road) (cells : List ℕ) (up down : ℕ) (word : List ℕ) where
   module _ (out : ℕ) where
@@ -87,6 +89,7 @@ module _ (r : Road) (cells : List ℕ) (up down : ℕ) (word : List ℕ) where
           place = ap (λ (g : Refusal). g .place) e;
           output = rw no refl;
           judged = rw (← e) at (predict-judged (length out));
+          state = λ q. let z : _≡_ {A = ℕ} 0 1 = cc q in absurd (omega arith);
         }
 
     -- accepted: the rows
@@ -102,4 +105,5 @@ module _ (r : Road) (cells : List ℕ) (up down : ℕ) (word : List ℕ) where
           place = rw nothing refl;
           output = rw yes-it-is is;
           judged = rw nothing at (predict-judged (length out));
+          state = λ q. predict-state r cells up down word (length out) (checked-of (length out) e) next is;
         }

@@ -21,8 +21,9 @@ use Rattle.modes.specs.declared.reading.ReadAnswer.{ReadAnswer}
 use Rattle.modes.specs.declared.reading.ReadAnswer.the-variants.{Done, Refused}
 use Rattle.modes.specs.declared.reading.Counts.{Counts}
 use Rattle.modes.specs.declared.reading.StateReading.{StateReading}
-use Rattle.modes.proofs.TalliedModes.{state-modes-length, state-numbered, state-counts-sum}
+use Rattle.modes.proofs.TalliedModes.{state-modes-length, state-numbered}
 use Rattle.modes.proofs.ReadJudging.{read-checked-of, read-judged}
+use Rattle.modes.proofs.ReadState.{read-state}
 
 -- an answer beside its counts
 abbrev reading : ReadAnswer → Counts → StateReading
@@ -42,7 +43,7 @@ module _ (r : Road) (cells : List ℕ) (up down : ℕ) (letters modes : List ℕ
         letters-written = rw no refl;
         modes-written = rw no refl;
         judged = rw (← e) at (read-judged r cells up down (length letters) (length modes));
-        counts-sum = λ q. let z : _≡_ {A = ℕ} 0 1 = cc q in absurd (omega arith);
+        state = λ q. let z : _≡_ {A = ℕ} 0 1 = cc q in absurd (omega arith);
       }
 
   -- accepted: the word, its modes and their counts
@@ -80,5 +81,5 @@ module _ (r : Road) (cells : List ℕ) (up down : ℕ) (letters modes : List ℕ
               letters-written = rw yes-it-is lettered;
               modes-written = rw yes-it-is modes-are;
               judged = rw nothing at (read-judged r cells up down (length letters) (length modes));
-              counts-sum = λ q. rw counts (state-counts-sum r up down cells (checked .accepted));
+              state = λ q. read-state r cells up down (length letters) (length modes) checked word ms c lettered moded counted;
             }

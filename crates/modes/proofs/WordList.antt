@@ -1,4 +1,4 @@
--- The list of the legal words: it holds each of them once and nothing else, and an answered word count is its length.
+-- The list of the legal words: it holds each of them once and nothing else, and the count is its length.
 use mathlib.Core.Path.{_≡_, _∙_, refl, sym, ap}
 use mathlib.Core.Bool.{Bool, true, false}
 use mathlib.Core.List.{List, [], _∷_}
@@ -7,19 +7,13 @@ use native.Mathlib.Nat.{suc-inj, le-of-suc-le-suc, not-suc-le-zero}
 use native.Mathlib.Numerals.{add-one}
 use native.Mathlib.Omega.{arith}
 use lib.ListN.{length}
-use borrow.Author.Tests.{eq-eqb}
 use Rattle.road.specs.Choice.{pick}
 use Rattle.road.specs.Ceilings.{countCeiling}
 use Rattle.modes.specs.Words.{legal, allWords, picked, wordCount}
-use Rattle.modes.specs.Count.{Meaning, countRefusal, meaning, countMeaning, CountsWords}
 use Rattle.modes.specs.LegalWordsCounted.{StandsAt, LegalWordsCounted}
-use Rattle.modes.specs.declared.counting.WordCount.{WordCount}
-use Rattle.modes.specs.declared.counting.CountAnswer.{CountAnswer}
-use Rattle.modes.specs.declared.counting.CountAnswer.the-variants.{Done}
 use Rattle.modes.proofs.Legal.{legal-known, legal-word}
 use Rattle.modes.proofs.LegalCount.{count-legal, words-known, words-all, words-once}
-use Rattle.modes.proofs.CountAnswers.{count-within}
-use Rattle.modes.proofs.Promised.{read-off}
+use Rattle.modes.proofs.ReadOff.{read-off}
 
 -- no word stands at two places
 abbrev Once : List (List ℕ) → Type 0
@@ -89,12 +83,3 @@ words-counted n few = record {
   once = picked-once legal (allWords (n + 1)) (λ word i j p q. words-once (n + 1) i j (p .0) (q .0) (p .1 ∙ sym (q .1)));
   occurs = λ low word long allowed r ok. read-off r ok word allowed (omega arith) (omega arith);
 }
-
--- where the call answers Done, its number is that of the legal words
-pub counted-words : (n : ℕ) (a : CountAnswer) → CountsWords n a → (c : WordCount) → a ≡ Done c → LegalWordsCounted n (c .words)
-unfolding countMeaning
-counted-words n a counts c e =
-    let same : meaning (Done c) ≡ countMeaning n = ap meaning (sym e) ∙ counts .means in
-    let none : countRefusal n .number ≡ 0 = sym (ap (λ (m : Meaning). m .number) same) in
-    let words : c .words ≡ wordCount n = rw (eq-eqb _ 0 none) at (ap (λ (m : Meaning). m .words) same) in
-    rw words (words-counted n (count-within n none))

@@ -11,7 +11,7 @@ use Rattle.road.specs.Table.{Row, row, judge, refused, Judged}
 use Rattle.road.specs.Judgement.{roadRows, outside, Accepted}
 use Rattle.road.specs.declared.Road.{Road}
 use Rattle.road.specs.declared.refusal.Refusal.{Refusal}
-use Rattle.floats.specs.Worth.{Worth, Passes}
+use Rattle.floats.specs.Worth.{Worth, FiniteUpTo}
 use Rattle.modes.specs.Modes.{rowValue}
 use Rattle.modes.specs.Coefficients.{leftCoefficient, ownCoefficient, rightCoefficient, constantOf}
 use Rattle.modes.specs.Places.{EstimatePlaced}
@@ -84,14 +84,14 @@ candidateMeaning r mode left own right = record {
   value = pick (eqb (candidateRefusal r mode left own right .number) 0) (candidateNumerator r mode left own right) (ofBits binary64 0);
 }
 
--- what an input that no row refuses is
+-- what an input that no row refuses is: each estimate a finite number from 0 to J
 pub record CandidateChecked (r : Road) (mode : ℕ) (left own right : Float) : Type 0 where
   pub accepted : Accepted r
   pub mode-low : 1 ≤ mode
   pub mode-high : mode ≤ 7
-  pub left-passes : Passes binary64 (r .jam) left
-  pub own-passes : Passes binary64 (r .jam) own
-  pub right-passes : Passes binary64 (r .jam) right
+  pub left-finite : FiniteUpTo (r .jam) left
+  pub own-finite : FiniteUpTo (r .jam) own
+  pub right-finite : FiniteUpTo (r .jam) right
 
 -- the place of 14 among the three estimates
 abbrev pub CandidatePlaced : Road → Float → Float → Float → Refusal → Type 0
@@ -108,11 +108,20 @@ pub record Whole (x : Float) (z : ℤ) : Type 0 where
   pub same : x ≡ ofInt binary64 z
   pub worth : Worth x z
 
+-- "A candidate row is three float coefficients and a float constant, each exactly the whole number"
+pub record RowWhole (r : Road) (mode : ℕ) : Type 0 where
+  pub left : Worth (rowFor r mode .left) (leftCoefficient r mode)
+  pub own : Worth (rowFor r mode .own) (ownCoefficient r mode)
+  pub right : Worth (rowFor r mode .right) (rightCoefficient r mode)
+  pub constant : Worth (rowFor r mode .constant) (constantOf r mode)
+
 -- what the call promises; the estimates of an accepted call are whole only as naturals, as `whole-estimate` shows
 pub record Candidates (r : Road) (mode : ℕ) (left own right : Float) (a : CandidateAnswer) : Type 0 where
   pub answer : a ≡ candidateAnswer r mode left own right
   pub means : meaning a ≡ candidateMeaning r mode left own right
   pub judged : CandidateJudged r mode left own right (refused (meaning a .number) (meaning a .place))
+  -- demand 2, of an accepted call: the row's numbers are exact, and where all three estimates are whole the result is the whole numerator
+  pub row-whole : (p : CandidateResult) → a ≡ Done p → RowWhole r mode
   pub exact : (p : CandidateResult) → a ≡ Done p → (l o t : ℕ) → Worth left (pos l) → Worth own (pos o) → Worth right (pos t)
       → Whole (p .numerator) (rowValue r mode l o t)
   -- never −0.0, whole estimates or not

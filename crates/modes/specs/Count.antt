@@ -8,6 +8,8 @@ use Rattle.road.specs.Ceilings.{countCeiling}
 use Rattle.road.specs.Table.{Row, row, judge, refused, Judged}
 use Rattle.road.specs.declared.refusal.Refusal.{Refusal}
 use Rattle.modes.specs.Words.{wordCount}
+use Rattle.modes.specs.LegalWordsCounted.{LegalWordsCounted}
+use Rattle.modes.specs.declared.counting.WordCount.{WordCount}
 use Rattle.modes.specs.declared.counting.CountAnswer.{CountAnswer}
 use Rattle.modes.specs.declared.counting.CountAnswer.the-variants.{Done, Refused}
 
@@ -47,3 +49,5 @@ pub record CountsWords (n : ℕ) (a : CountAnswer) : Type 0 where
   pub answer : a ≡ countAnswer n
   pub means : meaning a ≡ countMeaning n
   pub judged : CountJudged n (refused (meaning a .number) (meaning a .place))
+  -- demand 2, of an accepted call
+  pub counted : (c : WordCount) → a ≡ Done c → LegalWordsCounted n (c .words)

@@ -1,16 +1,19 @@
 -- The fit test: whether a state and end pair fit a word (document 01, "Seven modes").
 use mathlib.Core.Path.{_≡_}
 use mathlib.Core.Bool.{Bool, true, false}
+use mathlib.Core.Logic.{_↔_}
 use mathlib.Core.List.{List, [], _∷_}
-use Prim.Native.Nat.{ℕ, suc, _+_, _≤_}
+use Prim.Native.Nat.{ℕ, suc, _+_, _≤_, _<_}
 use lib.Dec.{eqb}
-use lib.ListN.{length}
+use lib.ListN.{length, getD}
 use Rattle.road.specs.Choice.{pick}
 use Rattle.road.specs.Ceilings.{cellsCeiling}
 use Rattle.road.specs.Table.{judge, refused, Judged}
 use Rattle.road.specs.Judgement.{Accepted}
 use Rattle.road.specs.declared.Road.{Road}
 use Rattle.road.specs.declared.refusal.Refusal.{Refusal}
+use Rattle.flux.specs.Letters.{Lettered}
+use Rattle.scheme.specs.Advance.{padded}
 use Rattle.scheme.specs.Sums.{Below}
 use Rattle.scheme.specs.Word.{wordOf}
 use Rattle.scheme.specs.Settling.{sameWord}
@@ -84,8 +87,32 @@ pub record Compared (r : Road) (cells : List ℕ) (up down : ℕ) (word : List �
   pub holds : f .holds ≡ allHold r cells up down word
   pub face : f .face ≡ misfitFace r cells up down word
 
+-- the face that is reported where not all hold: a face of the word, whose letter is not the state's there, and every lower one holds
+pub record LowestMisfit (own word : List ℕ) (face : ℕ) : Type 0 where
+  pub inside : face < length word
+  pub differs : getD own face 0 ≡ getD word face 0 → ⊥
+  pub lower : (i : ℕ) → i < face → getD own i 0 ≡ getD word i 0
+
+-- a word whose letter of face k, from 0 to n, stands in its region, between the densities of cells k and k+1
+abbrev pub LetteredWord : Road → List ℕ → ℕ → ℕ → List ℕ → Type 0
+LetteredWord r cells up down word =
+    (k : ℕ) → k ≤ length cells → Lettered r (getD (padded up down cells) k 0) (getD (padded up down cells) (k + 1) 0) (getD word k 0)
+
+-- an accepted fit test: all faces hold exactly when the word is the state's own; otherwise the face given does not hold, and every lower one does
+pub record FitState (r : Road) (cells : List ℕ) (up down : ℕ) (word : List ℕ) (f : FitResult) : Type 0 where
+  pub lettered : LetteredWord r cells up down (wordOf r up down cells)
+  pub all : (f .holds ≡ true) ↔ (word ≡ wordOf r up down cells)
+  pub no-face : f .holds ≡ true → f .face ≡ 0
+  pub lowest : f .holds ≡ false → LowestMisfit (wordOf r up down cells) word (f .face)
+
 -- what the call promises
 pub record Fits (r : Road) (cells : List ℕ) (up down : ℕ) (word : List ℕ) (a : FitAnswer) : Type 0 where
   pub answer : a ≡ fitAnswer r cells up down word
   pub means : meaning a ≡ fitMeaning r cells up down word
   pub judged : FitJudged r cells up down word (refused (meaning a .number) (meaning a .place))
+  -- demand 2, of an accepted call
+  pub state : (f : FitResult) → a ≡ Done f → FitState r cells up down word f
+
+-- the fit test was made, and every face holds
+abbrev pub AnswersFit : FitAnswer → Type 0
+AnswersFit a = (f : FitResult) × (a ≡ Done f) × (f .holds ≡ true)

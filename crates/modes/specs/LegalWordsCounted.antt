@@ -28,8 +28,9 @@ pub record Occurs (r : Road) (word : List ℕ) : Type 0 where
   pub downstream : downstreamOf r word ≤ r .jam
   pub below : (i : ℕ) → getD (cellsOf r word) i 0 ≤ r .jam
 
--- "the word of some accepted state": the state given for the word passes every check of the reading, and a reading of it is made and writes the word
+-- "the word of some accepted state": the state given for the word has it and passes every check of the reading, and a reading of it is made and writes the word
 pub record ReadOff (r : Road) (word : List ℕ) : Type 0 where
+  pub own : wordOf r (upstreamOf r word) (downstreamOf r word) (cellsOf r word) ≡ word
   pub checked : ReadChecked r (cellsOf r word) (upstreamOf r word) (downstreamOf r word) (length word) (length (cellsOf r word))
   pub written : (letters next-letters modes next-modes : List ℕ) (a : StateReading)
       → Reads r (cellsOf r word) (upstreamOf r word) (downstreamOf r word) letters next-letters modes next-modes a

@@ -1,13 +1,13 @@
--- The definitions of Level 2: words, modes and rows, the calls' rows of the refusal table, what each call promises, and what an accepted call says of its state.
+-- The definitions of Level 2: words, modes and rows, the calls' rows of the refusal table, and what each call promises.
 pub mod Words
 pub mod Modes
+pub mod SevenModes
 pub mod Coefficients
 pub mod Judging
 pub mod Places
-pub mod Reading
 pub mod Fit
-pub mod Prediction
-pub mod States
-pub mod Count
+pub mod Reading
 pub mod LegalWordsCounted
+pub mod Prediction
+pub mod Count
 pub mod Candidate

@@ -1,11 +1,11 @@
 -- Row prediction: a legal word's rows applied to any accepted state (document 01, "Seven modes").
 use mathlib.Core.Path.{_≡_}
 use mathlib.Core.Bool.{true}
-use mathlib.Core.List.{List}
-use Prim.Native.Nat.{ℕ, _+_, _≤_}
+use mathlib.Core.List.{List, map}
+use Prim.Native.Nat.{ℕ, _+_, _*_, _≤_, _<_}
 use lib.Dec.{eqb}
-use lib.IntN.{ℤ}
-use lib.ListN.{length}
+use lib.IntN.{ℤ, pos, _-ℤ_, natAbs}
+use lib.ListN.{length, getD}
 use Rattle.road.specs.Choice.{pick}
 use Rattle.road.specs.Ceilings.{cellsCeiling}
 use Rattle.road.specs.Table.{judge, refused, Judged}
@@ -13,10 +13,15 @@ use Rattle.road.specs.Judgement.{Accepted}
 use Rattle.road.specs.declared.Road.{Road}
 use Rattle.road.specs.declared.refusal.Refusal.{Refusal}
 use Rattle.scheme.specs.Sums.{Below}
+use Rattle.scheme.specs.Word.{wordOf}
+use Rattle.scheme.specs.Exact.{exactStep}
+use Rattle.scheme.specs.Rounded.{roundStep}
+use Rattle.scheme.specs.ByFaces.{ExactStepByFaces}
 use Rattle.modes.specs.Words.{legal}
 use Rattle.modes.specs.Modes.{rowNumerators}
 use Rattle.modes.specs.Judging.{predictShapeRows, predictRows, predictRefusal}
 use Rattle.modes.specs.Places.{PairWordPlaced}
+use Rattle.modes.specs.LegalWordsCounted.{ReadOff}
 use Rattle.modes.specs.declared.prediction.PredictAnswer.{PredictAnswer}
 use Rattle.modes.specs.declared.prediction.PredictAnswer.the-variants.{Done, Refused}
 
@@ -59,6 +64,19 @@ abbrev pub PredictJudged : Road → List ℕ → ℕ → ℕ → List ℕ → �
 PredictJudged r cells up down word out f =
     Judged (predictRows r cells up down word out) (PredictChecked r cells up down word out) (PairWordPlaced r cells up down word) f
 
+-- rows of the state's own word: the exact, unrounded step, with no subtraction cut off, and D times the rounded new density differs from it by less than D
+pub record OwnRows (r : Road) (cells : List ℕ) (up down : ℕ) (rows : List ℤ) : Type 0 where
+  pub exact : rows ≡ map pos (exactStep r 1 up down cells)
+  pub exact-step : ExactStepByFaces r 1 up down cells (exactStep r 1 up down cells)
+  pub near : (k : ℕ) → natAbs (pos (r .divisor * getD (roundStep r up down cells) k 0) -ℤ getD rows k (pos 0)) < r .divisor
+
+-- an accepted row prediction of n cells: n numerators, by the rows of the word, which is the word of some accepted state
+pub record PredictState (r : Road) (cells : List ℕ) (up down : ℕ) (word : List ℕ) (rows : List ℤ) : Type 0 where
+  pub written : rows ≡ rowNumerators r up down word cells
+  pub long : length rows ≡ length cells
+  pub own : word ≡ wordOf r up down cells → OwnRows r cells up down rows
+  pub occurs : ReadOff r word
+
 -- what the call promises
 pub record Predicts (r : Road) (cells : List ℕ) (up down : ℕ) (word : List ℕ) (out next : List ℤ) (a : PredictAnswer) : Type 0 where
   pub answer : a ≡ predictAnswer r cells up down word (length out)
@@ -66,3 +84,5 @@ pub record Predicts (r : Road) (cells : List ℕ) (up down : ℕ) (word : List �
   pub place : predictPlace a ≡ predictRefusal r cells up down word (length out) .place
   pub output : next ≡ predicted r cells up down word out
   pub judged : PredictJudged r cells up down word (length out) (refused (predictNumber a) (predictPlace a))
+  -- demand 2, of an accepted call: of the numerators handed back
+  pub state : a ≡ Done → PredictState r cells up down word next

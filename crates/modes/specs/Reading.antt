@@ -1,6 +1,6 @@
 -- The reading of a state: letters, modes, seven counts and the queued cells (document 01, "Seven modes").
 use mathlib.Core.Path.{_≡_}
-use mathlib.Core.Bool.{Bool}
+use mathlib.Core.Bool.{Bool, true}
 use mathlib.Core.List.{List, [], _∷_}
 use Prim.Native.Nat.{ℕ, _+_, _≤_, _<_}
 use lib.Dec.{eqb}
@@ -12,10 +12,15 @@ use Rattle.road.specs.Judgement.{Accepted}
 use Rattle.road.specs.declared.Road.{Road}
 use Rattle.road.specs.declared.refusal.Refusal.{Refusal}
 use Rattle.checks.specs.Places.{Placed}
+use Rattle.flux.specs.Letters.{PublishedFlow}
+use Rattle.scheme.specs.Advance.{padded}
 use Rattle.scheme.specs.Sums.{sum, Below}
 use Rattle.scheme.specs.Word.{wordOf}
+use Rattle.modes.specs.Words.{legal}
 use Rattle.modes.specs.Modes.{modesOf}
 use Rattle.modes.specs.Judging.{readShapeRows, readRows, readRefusal}
+use Rattle.modes.specs.Fit.{allHold, LetteredWord, Fits, AnswersFit}
+use Rattle.modes.specs.declared.fitting.FitAnswer.{FitAnswer}
 use Rattle.modes.specs.declared.reading.ReadAnswer.{ReadAnswer}
 use Rattle.modes.specs.declared.reading.ReadAnswer.the-variants.{Done, Refused}
 use Rattle.modes.specs.declared.reading.Counts.{Counts}
@@ -99,6 +104,30 @@ abbrev pub readPlace : ReadAnswer → ℕ
 readPlace Done = 0
 readPlace (Refused f) = f .place
 
+-- what its own word is to a state: it has a letter a face, is legal, fits, and is the only word that does
+pub record OwnWord (r : Road) (cells : List ℕ) (up down : ℕ) (word : List ℕ) : Type 0 where
+  pub long : length word ≡ length cells + 1
+  pub allowed : legal word ≡ true
+  pub fits : allHold r cells up down word ≡ true
+  pub only : (other : List ℕ) → allHold r cells up down other ≡ true → other ≡ word
+
+-- an accepted reading of n cells: n+1 letters, the state's own word; n modes, each one of the seven; the counts of the modes, whose sum is n; the queued cells, those in modes 1, 2 and 3
+pub record ReadState (r : Road) (cells : List ℕ) (up down : ℕ) (letters modes : List ℕ) (c : Counts) : Type 0 where
+  -- the letter of each face stands in its region, and the face has that letter's published flow
+  pub lettered : LetteredWord r cells up down letters
+  pub flow : (k : ℕ) → k ≤ length cells → PublishedFlow r (getD (padded up down cells) k 0) (getD (padded up down cells) (k + 1) 0) (getD letters k 0)
+  pub word : letters ≡ wordOf r up down cells
+  pub own : OwnWord r cells up down letters
+  -- the fit test of the same state says the same: it answers that all faces hold, of these letters and of no others
+  pub fit : (a : FitAnswer) → Fits r cells up down letters a → AnswersFit a
+  pub fit-only : (other : List ℕ) (a : FitAnswer) → Fits r cells up down other a → AnswersFit a → other ≡ letters
+  pub moded : modes ≡ modesOf letters
+  pub modes-long : length modes ≡ length cells
+  pub numbered : Numbered modes
+  pub counted : c ≡ tallied modes
+  pub counts-sum : sum (c .modes) ≡ length cells
+  pub queued : c .queued ≡ countOf 1 modes + countOf 2 modes + countOf 3 modes
+
 -- what the call promises
 pub record Reads (r : Road) (cells : List ℕ) (up down : ℕ) (letters next-letters modes next-modes : List ℕ) (a : StateReading) : Type 0 where
   pub answer : a ≡ readAnswer r cells up down (length letters) (length modes)
@@ -107,4 +136,5 @@ pub record Reads (r : Road) (cells : List ℕ) (up down : ℕ) (letters next-let
   pub letters-written : next-letters ≡ readLetters r cells up down letters modes
   pub modes-written : next-modes ≡ readModes r cells up down letters modes
   pub judged : ReadJudged r cells up down (length letters) (length modes) (refused (readNumber (a .answer)) (readPlace (a .answer)))
-  pub counts-sum : a .answer ≡ Done → sum (a .counts .modes) ≡ length cells
+  -- demand 2, of an accepted call: of the letters, modes and counts handed back
+  pub state : a .answer ≡ Done → ReadState r cells up down next-letters next-modes (a .counts)

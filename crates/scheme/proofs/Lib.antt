@@ -16,3 +16,4 @@ pub mod Stillness
 pub mod Settlement
 pub mod Promises
 pub mod Faces
+pub mod ByFaces

@@ -1,9 +1,9 @@
 -- What every run on an accepted road keeps, with nothing left to assume: the theorems that the levels above cite.
-use mathlib.Core.Path.{_≡_, _∙_, refl}
+use mathlib.Core.Path.{_≡_, _∙_, refl, ap}
 use mathlib.Core.List.{List}
 use Prim.Native.Nat.{ℕ, zero, suc, _+_, _-_, _*_, _^_, _≤_, _<_}
 use native.Mathlib.Omega.{arith}
-use lib.ListN.{length, getD}
+use lib.ListN.{length, getD, replicate}
 use Rattle.road.specs.Judgement.{Accepted}
 use Rattle.road.specs.declared.Road.{Road}
 use Rattle.scheme.specs.Advance.{faceFlows}
@@ -13,10 +13,16 @@ use Rattle.scheme.specs.Exact.{exactFlow, exactStep, exactRun}
 use Rattle.scheme.specs.Settling.{after, settleSteps, settleCells}
 use Rattle.scheme.proofs.Laws.{round-laws, exact-laws, spread, homog}
 use Rattle.scheme.proofs.Range.{stepped-cell}
-use Rattle.scheme.proofs.Runs.{roundStep-length, roundStep-below, roundRun-below, roundRun-balance, roundRun-monotone, roundRun-contraction, exactRun-below}
+use Rattle.scheme.proofs.Runs.{roundRun-length, roundRun-below, roundRun-balance, roundRun-monotone, roundRun-contraction, exactRun-below}
 use Rattle.scheme.proofs.Lists.{pairs-at}
 use Rattle.scheme.proofs.Scaling.{exactStep-times, exactRun-times}
 use Rattle.scheme.proofs.Distance.{step-near, step-rounding, run-rounding}
+
+-- the k steps of a settling run are the run over k copies of its end pair
+pub after-run : (r : Road) (up down k : ℕ) (xs : List ℕ) → after r up down k xs ≡ roundRun r (replicate k up) (replicate k down) xs
+unfolding after roundRun
+after-run r up down zero xs = refl
+after-run r up down (suc k) xs = after-run r up down k (roundStep r up down xs)
 
 module _ (r : Road) (ok : Accepted r) where
   -- new + out equals old + in at each cell of the rounded step, and D × old + in at each cell of the exact one: no subtraction is cut off at 0
@@ -73,24 +79,22 @@ module _ (r : Road) (ok : Accepted r) where
       ≤ length xs * length ups * (r .divisor - 1) * r .divisor ^ length ups
   round-near = run-rounding r (round-laws r ok) (exact-laws r ok) (homog r) (spread r ok)
 
-  -- a settling run keeps the range, and below the number of cells
-  after-range : (up down k : ℕ) (xs : List ℕ) → Below (r .jam) xs → Below (r .jam) (after r up down k xs)
-  unfolding after
-  after-range up down zero xs h = h
-  after-range up down (suc k) xs h = after-range up down k (roundStep r up down xs) (roundStep-below r (round-laws r ok) up down xs h)
+  -- a settling run keeps the balance, the range and, below, the number of cells
+  pub after-balance : (up down k : ℕ) (xs : List ℕ)
+      → sum xs + entered r (replicate k up) (replicate k down) xs ≡ sum (after r up down k xs) + left r (replicate k up) (replicate k down) xs
+  after-balance up down k xs = rw (after-run r up down k xs) (round-balance (replicate k up) (replicate k down) xs)
 
   pub settle-range : (up down t : ℕ) (xs : List ℕ) → Below (r .jam) xs → Below (r .jam) (settleCells r up down t xs)
   unfolding settleCells
-  settle-range up down t xs h = after-range up down (settleSteps r up down t xs) xs h
-
-after-length : (r : Road) (up down k : ℕ) (xs : List ℕ) → length (after r up down k xs) ≡ length xs
-unfolding after
-after-length r up down zero xs = refl
-after-length r up down (suc k) xs = after-length r up down k (roundStep r up down xs) ∙ roundStep-length r up down xs
+  settle-range up down t xs h =
+      let k = settleSteps r up down t xs in
+      rw (after-run r up down k xs) (round-range (replicate k up) (replicate k down) xs h)
 
 pub settle-length : (r : Road) (up down t : ℕ) (xs : List ℕ) → length (settleCells r up down t xs) ≡ length xs
 unfolding settleCells
-settle-length r up down t xs = after-length r up down (settleSteps r up down t xs) xs
+settle-length r up down t xs =
+    let k = settleSteps r up down t xs in
+    ap length (after-run r up down k xs) ∙ roundRun-length r (replicate k up) (replicate k down) xs
 
 -- the scale does not matter: k times the densities, at k times the scale, give k times the result, so that the whole-number form is document 01's fractions times Z
 pub exact-scale : (r : Road) (k z u d : ℕ) (xs : List ℕ) → exactStep r (k * z) u d (times k xs) ≡ times k (exactStep r z u d xs)

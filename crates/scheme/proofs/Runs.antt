@@ -1,4 +1,4 @@
--- Runs: length, range, balance, monotonicity and contraction of the rounded scheme; length, range and one step's contraction of the exact one.
+-- Runs: balance, length, range, monotonicity and contraction of the rounded scheme; length, range and one step's contraction of the exact one.
 use mathlib.Core.Path.{_≡_, refl, sym, _∙_}
 use mathlib.Core.List.{List, [], _∷_}
 use Prim.Native.Nat.{ℕ, suc, _+_, _*_, _^_, _≤_}
@@ -16,6 +16,16 @@ use Rattle.scheme.proofs.Range.{stepped-below}
 use Rattle.scheme.proofs.Balance.{stepped-balance}
 use Rattle.scheme.proofs.Monotone.{stepped-ordered}
 use Rattle.scheme.proofs.Contraction.{stepped-contraction}
+
+module _ (r : Road) (laws : (i : ℕ) → Law 1 (r .jam) (r .critical) (moved r i)) where
+  -- no unit is made or lost
+  pub roundRun-balance : (ups downs xs : List ℕ)
+      → sum xs + entered r ups downs xs ≡ sum (roundRun r ups downs xs) + left r ups downs xs
+  unfolding roundRun entered left roundStep
+  roundRun-balance [] downs xs = refl
+  roundRun-balance (u ∷ ups) [] xs = refl
+  roundRun-balance (u ∷ ups) (d ∷ downs) xs =
+      omega (arith, stepped-balance 1 (r .jam) (r .critical) (moved r) laws u d xs, roundRun-balance ups downs (roundStep r u d xs))
 
 module _ (r : Road) where
   -- what every step keeps, a run keeps
@@ -56,14 +66,6 @@ module _ (r : Road) (laws : (i : ℕ) → Law 1 (r .jam) (r .critical) (moved r 
 
   pub roundRun-below : (ups downs xs : List ℕ) → Below (r .jam) xs → Below (r .jam) (roundRun r ups downs xs)
   roundRun-below ups downs xs h = roundRun-keeps r (λ ys. Below (r .jam) ys) roundStep-below ups downs xs h
-
-  pub roundRun-balance : (ups downs xs : List ℕ)
-      → sum xs + entered r ups downs xs ≡ sum (roundRun r ups downs xs) + left r ups downs xs
-  unfolding roundRun entered left roundStep
-  roundRun-balance [] downs xs = refl
-  roundRun-balance (u ∷ ups) [] xs = refl
-  roundRun-balance (u ∷ ups) (d ∷ downs) xs =
-      omega (arith, stepped-balance 1 (r .jam) (r .critical) (moved r) laws u d xs, roundRun-balance ups downs (roundStep r u d xs))
 
   roundRun-ordered : {ups ups′ downs downs′ xs ys : List ℕ} → Pairs _≤_ ups ups′ → Pairs _≤_ downs downs′ → Pairs _≤_ xs ys
       → Pairs _≤_ (roundRun r ups downs xs) (roundRun r ups′ downs′ ys)

@@ -87,7 +87,6 @@ module _ (r : Road) (up down : ℕ) where
 pub record Searching (r : Road) (up down t : ℕ) (old : List ℕ) (cells : List ℕ) (k : ℕ) : Type 0 where
   pub long : length cells ≡ length old
   pub below : Below (r .jam) cells
-  pub made : k ≤ t
   pub reached : cells ≡ after r up down k old
   pub steps-left : k + settleSteps r up down (t - k) cells ≡ settleSteps r up down t old
   pub settles-left : settles r up down (t - k) cells ≡ settles r up down t old
@@ -98,7 +97,6 @@ module _ (r : Road) (ok : Accepted r) (up down t : ℕ) (old : List ℕ) where
   begins h = record {
     long = refl;
     below = h;
-    made = zero-le;
     reached = refl;
     steps-left = rw (sub-zero t) (omega arith);
     settles-left = rw (sub-zero t) refl;
@@ -112,7 +110,6 @@ module _ (r : Road) (ok : Accepted r) (up down t : ℕ) (old : List ℕ) where
     turn next h e s = record {
       long = ap length s ∙ roundStep-length r up down cells ∙ now .long;
       below = rw s (roundStep-below r (round-laws r ok) up down cells (now .below));
-      made = h;
       reached = s ∙ ap (roundStep r up down) (now .reached) ∙ after-step r up down k old;
       steps-left = rw s (let a = rw (one-less h) at (now .steps-left) in let b = steps-on r up down (t - suc k) cells e in omega arith);
       settles-left = rw s (sym (settles-on r up down (t - suc k) cells e) ∙ rw (one-less h) at (now .settles-left));
@@ -135,14 +132,13 @@ module _ (r : Road) (ok : Accepted r) (up down t : ℕ) (old : List ℕ) where
         }
 
     -- the horizon is used up
-    pub unsettled : t ≤ k → SettledTo r up down t old cells record { settled = false; steps = t }
+    pub unsettled : t ≤ k → SettledTo r up down t old cells record { settled = false; steps = k }
     unfolding settleCells settles settleSteps
     unsettled h =
         let none = sub-eq-zero-of-le h in
-        let steps : t ≡ settleSteps r up down t old = let a = rw none at (now .steps-left) in let b = now .made in omega arith in
-        let all : k ≡ settleSteps r up down t old = let b = now .made in omega arith in
+        let steps : k ≡ settleSteps r up down t old = let a = rw none at (now .steps-left) in omega arith in
         record {
-          cells = now .reached ∙ ap (λ (n : ℕ). after r up down n old) all;
+          cells = now .reached ∙ ap (λ (n : ℕ). after r up down n old) steps;
           settled = rw none at (now .settles-left);
           steps = steps;
         }

@@ -7,7 +7,8 @@ unfoldable pub ahead : ℕ → List ℕ → ℕ
 ahead down [] = down
 ahead down (x ∷ xs) = x
 
--- the cells after the step, their first left face already worked: new = m × old + in − out, where face i is the first cell's right one
+-- the cells after the step, their first left face already worked: new = m × old + in − out, where face i is the first cell's right one.
+-- On an accepted road this subtraction is never cut off at 0: new + out ≡ m × old + in at each cell, which `round-cell` and `exact-cell` of proofs/Promises.antt prove of both schemes
 unfoldable pub advance : ℕ → (ℕ → ℕ → ℕ → ℕ) → ℕ → ℕ → ℕ → List ℕ → List ℕ
 advance m F i inflow down [] = []
 advance m F i inflow down (x ∷ xs) =

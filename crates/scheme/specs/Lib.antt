@@ -2,6 +2,7 @@
 pub mod Advance
 pub mod Sums
 pub mod Rounded
+pub mod ByFaces
 pub mod Exact
 pub mod Word
 pub mod Settling

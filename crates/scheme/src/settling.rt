@@ -109,6 +109,6 @@ pub fn settle(pace: Pace, cells: &mut [u32], up: u32, down: u32, horizon: u32) -
     }
     Settled {
         settled: false,
-        steps: horizon,
+        steps,
     }
 }

@@ -14,7 +14,7 @@ use Rattle.road.proofs.Table.{none-holds, nothing-refused, passing-append, all-
 use Rattle.road.proofs.Acceptance.{road-passing}
 use Rattle.road.proofs.Parts.{road-first}
 use Rattle.modes.specs.Candidate.{badEstimate}
-use Rattle.modes.proofs.CandidateAnswers.{passes-of, of-passes}
+use Rattle.modes.proofs.CandidateAnswers.{finite-of, of-finite}
 use Rattle.site.specs.declared.stations.StationReading.{StationReading}
 use Rattle.site.specs.declared.stations.StationReading.the-variants.{Density, FlowAndSpeed, Speed}
 use Rattle.site.specs.declared.stations.Estimate.{Estimate}
@@ -39,11 +39,12 @@ module _ (r : Road) (x : StationReading) where
   unfolding S.stationRefusal
   checked-of e =
       let no = none-holds (S.stationRows r x) tt e in
+      let ok = road-first r (S.givenRows r x) e in
       record {
-        accepted = road-first r (S.givenRows r x) e;
+        accepted = ok;
         given = no 4 (lit< tt);
         slow = no 5 (lit< tt);
-        passes = passes-of (r .jam) (S.estimateOf r x) (sym (bad-result r x) ∙ no 6 (lit< tt));
+        finite = finite-of r ok (S.estimateOf r x) (sym (bad-result r x) ∙ no 6 (lit< tt));
       }
 
   -- and the other way round: no refusal otherwise
@@ -52,7 +53,7 @@ module _ (r : Road) (x : StationReading) where
   checked-passes c =
       all-pass (S.stationRows r x)
       (passing-append (roadRows r) (S.givenRows r x) (road-passing r (c .accepted))
-      (c .given, (c .slow, (bad-result r x ∙ of-passes (r .jam) (S.estimateOf r x) (c .passes), tt))))
+      (c .given, (c .slow, (bad-result r x ∙ of-finite r (c .accepted) (S.estimateOf r x) (c .finite), tt))))
 
   -- demand 1 of the judgement
   station-judged : S.StationJudged r x (S.stationRefusal r x)
@@ -86,5 +87,5 @@ module _ (r : Road) (x : StationReading) where
         answer = rw yes-it-is (λ i. Done (record { density = is i }));
         means = rw yes-it-is (λ i. record { number = sym nothing i .number; place = sym nothing i .place; density = is i });
         judged = rw nothing at station-judged;
-        feeds = λ d q. rw (sym (same-estimate q) ∙ is) (checked-of e .passes);
+        feeds = λ d q. rw (sym (same-estimate q) ∙ is) (checked-of e .finite);
       }

@@ -11,7 +11,7 @@ use Rattle.road.specs.Table.{Row, row, judge, refused, Judged}
 use Rattle.road.specs.Judgement.{roadRows, Accepted}
 use Rattle.road.specs.declared.Road.{Road}
 use Rattle.road.specs.declared.refusal.Refusal.{Refusal}
-use Rattle.floats.specs.Worth.{Passes}
+use Rattle.floats.specs.Worth.{FiniteUpTo}
 use Rattle.modes.specs.Candidate.{badEstimate}
 use Rattle.site.specs.declared.stations.StationReading.{StationReading}
 use Rattle.site.specs.declared.stations.StationReading.the-variants.{Density, FlowAndSpeed, Speed}
@@ -98,15 +98,15 @@ pub record StationChecked (r : Road) (x : StationReading) : Type 0 where
   pub accepted : Accepted r
   pub given : badGiven x ≡ false
   pub slow : tooFast r x ≡ false
-  pub passes : Passes binary64 (r .jam) (estimateOf r x)
+  pub finite : FiniteUpTo (r .jam) (estimateOf r x)
 
 -- demand 1 of a refusal, of the station's rows: every place is 0
 abbrev pub StationJudged : Road → StationReading → Refusal → Type 0
 StationJudged r x f = Judged (stationRows r x) (StationChecked r x) (λ g. g .place ≡ 0) f
 
--- what the call promises; an estimate that comes back passes the three tests of 14, so that candidate prediction accepts it on the same road
+-- what the call promises; an estimate that comes back is a finite number from 0 to J, so that candidate prediction accepts it on the same road
 pub record Stations (r : Road) (x : StationReading) (a : StationAnswer) : Type 0 where
   pub answer : a ≡ stationAnswer r x
   pub means : meaning a ≡ stationMeaning r x
   pub judged : StationJudged r x (refused (meaning a .number) (meaning a .place))
-  pub feeds : (e : Estimate) → a ≡ Done e → Passes binary64 (r .jam) (e .density)
+  pub feeds : (e : Estimate) → a ≡ Done e → FiniteUpTo (r .jam) (e .density)

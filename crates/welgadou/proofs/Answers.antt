@@ -23,7 +23,5 @@ refusal-counts {number = number} refused not-done answer same z =
     let no = not-done (answer ∙ (rw (eq-eqb number 0 (sym same ∙ z)) refl)) in omega arith
 
 -- and what stands behind a pointer, whatever its type, is its former contents
-pub refusal-keeps : {A C : Type 0} {a done : A} {number returned : ℕ} (refused : A)
-    → (a ≡ done → _≡_ {A = ℕ} 0 1) → a ≡ pick (eqb number 0) done refused → returned ≡ number → (value former : C) → former ≡ written returned value former
-refusal-keeps {returned = returned} refused not-done answer same value former =
-    rw (ne-eqb returned 0 (refusal-counts refused not-done answer same)) refl
+pub kept : {C : Type 0} {returned : ℕ} → (returned ≡ 0 → ⊥) → (value former : C) → former ≡ written returned value former
+kept {returned = returned} counts value former = rw (ne-eqb returned 0 counts) refl

@@ -16,9 +16,9 @@ use Rattle.forecast.specs.Forecast as Forecast
 use Rattle.forecast.specs.Forecast.{forecastAnswer, forecastMeaning, ForecastJudged}
 use Rattle.forecast.specs.Settle as Settle
 use Rattle.forecast.specs.Settle.{settleAnswer, settleMeaning, SettleJudged}
-use Rattle.welgadou.specs.Parts.{written, flagOf}
+use Rattle.welgadou.specs.Parts.{flagOf}
 use Rattle.welgadou.specs.Level1.{Forecasted, SettledRun}
-use Rattle.welgadou.proofs.Answers.{told, judged-told, refusal-counts, refusal-keeps}
+use Rattle.welgadou.proofs.Answers.{told, judged-told, refusal-counts, kept}
 
 module _ {s r : Road} {cells ups downs : List ℕ} {t : ℕ} {out next : List ℕ} {a : ForecastAnswer} (here : s ≡ r) (called : Forecast.Forecasts s cells ups downs t out next a) where
   forecasts : Forecast.Forecasts r cells ups downs t out next a
@@ -39,24 +39,24 @@ module _ {s r : Road} {cells ups downs : List ℕ} {t : ℕ} {out next : List �
         left-written = ap (λ (x : Forecast.Meaning). x .left) m;
         judged = forecast-told e;
         demand3 = λ z. forecasts .demand3 _ e;
+        by-faces = λ z. forecasts .by-faces _ e;
       }
 
   pub forecast-refused : {f : Refusal} {entered left : ℕ} → a ≡ F.Refused f → Forecasted r cells ups downs t out next entered entered left left (f .place) (f .number)
   unfolding forecastAnswer forecastMeaning
   forecast-refused {f} e =
       let m = told Forecast.meaning e (forecasts .means) in
-      let keeps : (value former : ℕ) → former ≡ written (f .number) value former =
-      refusal-keeps _ (λ q. cc (sym e ∙ q)) (forecasts .answer) (ap (λ (x : Forecast.Meaning). x .number) m) in
       let counts : f .number ≡ 0 → ⊥ =
       refusal-counts _ (λ q. cc (sym e ∙ q)) (forecasts .answer) (ap (λ (x : Forecast.Meaning). x .number) m) in
       record {
         returned = ap (λ (x : Forecast.Meaning). x .number) m;
         placed = ap (λ (x : Forecast.Meaning). x .place) m;
         output = forecasts .output;
-        entered-written = keeps _ _;
-        left-written = keeps _ _;
+        entered-written = kept counts _ _;
+        left-written = kept counts _ _;
         judged = forecast-told e;
         demand3 = λ z. absurd (counts z);
+        by-faces = λ z. absurd (counts z);
       }
 
 module _ {s r : Road} {cells : List ℕ} {up down t : ℕ} {out next : List ℕ} {a : SettleAnswer} (here : s ≡ r) (called : Settle.Settles s cells up down t out next a) where
@@ -84,16 +84,14 @@ module _ {s r : Road} {cells : List ℕ} {up down t : ℕ} {out next : List ℕ}
   unfolding settleAnswer settleMeaning
   settle-refused {f} e =
       let m = told Settle.meaning e (settles .means) in
-      let keeps : (value former : ℕ) → former ≡ written (f .number) value former =
-      refusal-keeps _ (λ q. cc (sym e ∙ q)) (settles .answer) (ap (λ (x : Settle.Meaning). x .number) m) in
       let counts : f .number ≡ 0 → ⊥ =
       refusal-counts _ (λ q. cc (sym e ∙ q)) (settles .answer) (ap (λ (x : Settle.Meaning). x .number) m) in
       record {
         returned = ap (λ (x : Settle.Meaning). x .number) m;
         placed = ap (λ (x : Settle.Meaning). x .place) m;
         output = settles .output;
-        settled-written = keeps _ _;
-        steps-written = keeps _ _;
+        settled-written = kept counts _ _;
+        steps-written = kept counts _ _;
         judged = settle-told e;
         settlement = λ z. absurd (counts z);
       }

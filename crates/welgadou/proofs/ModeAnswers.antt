@@ -1,10 +1,11 @@
 -- From an answer of Level 2 to what its C call returns and writes.
-use mathlib.Core.Path.{_≡_, _∙_, sym, ap, subst}
+use mathlib.Core.Path.{_≡_, _∙_, refl, sym, ap, subst}
 use mathlib.Core.List.{List}
 use Prim.Native.Nat.{ℕ}
 use lib.IntN.{ℤ}
 use lib.Ieee.{Float}
 use lib.ListN.{length}
+use borrow.Author.Tests.{eq-eqb}
 use Rattle.road.specs.Table.{refused}
 use Rattle.road.specs.declared.Road.{Road}
 use Rattle.road.specs.declared.refusal.Refusal.{Refusal}
@@ -25,14 +26,14 @@ use Rattle.modes.specs.declared.counting.CountAnswer.the-variants as W
 use Rattle.modes.specs.Reading.{readNumber, readPlace, readAnswer, ReadJudged, Reads}
 use Rattle.modes.specs.Fit as Fit
 use Rattle.modes.specs.Fit.{fitAnswer, fitMeaning, FitJudged}
-use Rattle.modes.specs.Prediction.{predictNumber, predictPlace, PredictJudged, Predicts}
+use Rattle.modes.specs.Prediction.{predictAnswer, predictNumber, predictPlace, PredictJudged, Predicts}
 use Rattle.modes.specs.Candidate as Candidate
 use Rattle.modes.specs.Candidate.{candidateAnswer, candidateMeaning, CandidateJudged}
 use Rattle.modes.specs.Count as Count
 use Rattle.modes.specs.Count.{countAnswer, countMeaning, CountJudged}
-use Rattle.welgadou.specs.Parts.{written, flagOf}
+use Rattle.welgadou.specs.Parts.{flagOf}
 use Rattle.welgadou.specs.Level2.{StateRead, WordFitted, RowsPredicted, CandidatePredicted, WordsCounted}
-use Rattle.welgadou.proofs.Answers.{told, judged-told, refusal-keeps}
+use Rattle.welgadou.proofs.Answers.{told, judged-told, refusal-counts, kept}
 
 module _ {s r : Road} {cells : List ℕ} {up down : ℕ} {letters letters-next modes modes-next : List ℕ} {a : StateReading} (here : s ≡ r) (called : Reads s cells up down letters letters-next modes modes-next a) where
   reads : Reads r cells up down letters letters-next modes modes-next a
@@ -52,6 +53,7 @@ module _ {s r : Road} {cells : List ℕ} {up down : ℕ} {letters letters-next m
     counts-written = ap (λ (x : StateReading). x .counts .modes) (reads .answer);
     queued-written = ap (λ (x : StateReading). x .counts .queued) (reads .answer);
     judged = read-told e;
+    state = λ z. reads .state e;
   }
 
   pub read-refused : {f : Refusal} {counts : List ℕ} {queued : ℕ} → a .answer ≡ R.Refused f
@@ -59,16 +61,17 @@ module _ {s r : Road} {cells : List ℕ} {up down : ℕ} {letters letters-next m
   unfolding readAnswer
   read-refused {f} e =
       let number = told readNumber e (reads .number) in
-      let keeps : (C : Type 0) (value former : C) → former ≡ written (f .number) value former =
-      λ C. refusal-keeps {C = C} _ (λ q. cc (sym e ∙ ap (λ (x : StateReading). x .answer) q)) (reads .answer) number in
+      let counts : f .number ≡ 0 → ⊥ =
+      refusal-counts _ (λ q. cc (sym e ∙ ap (λ (x : StateReading). x .answer) q)) (reads .answer) number in
       record {
         returned = number;
         placed = told readPlace e (reads .place);
         letters-written = reads .letters-written;
         modes-written = reads .modes-written;
-        counts-written = keeps (List ℕ) _ _;
-        queued-written = keeps ℕ _ _;
+        counts-written = kept counts _ _;
+        queued-written = kept counts _ _;
         judged = read-told e;
+        state = λ z. absurd (counts z);
       }
 
 module _ {s r : Road} {cells : List ℕ} {up down : ℕ} {word : List ℕ} {a : FitAnswer} (here : s ≡ r) (called : Fit.Fits s cells up down word a) where
@@ -79,7 +82,7 @@ module _ {s r : Road} {cells : List ℕ} {up down : ℕ} {word : List ℕ} {a : 
   fit-told e = judged-told (FitJudged r cells up down word) (λ (x : FitAnswer). refused (Fit.meaning x .number) (Fit.meaning x .place)) e (fits .judged)
 
   pub fit-done : {d : FitResult} {holds face flag : ℕ} → a ≡ F.Done d → flag ≡ flagOf (d .holds) → WordFitted r cells up down word holds flag face (d .face) 0 0
-  fit-done e q =
+  fit-done {d} e q =
       let m = told Fit.meaning e (fits .means) in
       record {
         returned = ap (λ (x : Fit.Meaning). x .number) m;
@@ -87,32 +90,37 @@ module _ {s r : Road} {cells : List ℕ} {up down : ℕ} {word : List ℕ} {a : 
         holds-written = q ∙ ap (λ (x : Fit.Meaning). flagOf (x .holds)) m;
         face-written = ap (λ (x : Fit.Meaning). x .face) m;
         judged = fit-told e;
+        state = λ z. (d .holds, q, fits .state d e);
       }
 
   pub fit-refused : {f : Refusal} {holds face : ℕ} → a ≡ F.Refused f → WordFitted r cells up down word holds holds face face (f .place) (f .number)
   unfolding fitAnswer fitMeaning
   fit-refused {f} e =
       let m = told Fit.meaning e (fits .means) in
-      let keeps : (value former : ℕ) → former ≡ written (f .number) value former =
-      refusal-keeps _ (λ q. cc (sym e ∙ q)) (fits .answer) (ap (λ (x : Fit.Meaning). x .number) m) in
+      let counts : f .number ≡ 0 → ⊥ =
+      refusal-counts _ (λ q. cc (sym e ∙ q)) (fits .answer) (ap (λ (x : Fit.Meaning). x .number) m) in
       record {
         returned = ap (λ (x : Fit.Meaning). x .number) m;
         placed = ap (λ (x : Fit.Meaning). x .place) m;
-        holds-written = keeps _ _;
-        face-written = keeps _ _;
+        holds-written = kept counts _ _;
+        face-written = kept counts _ _;
         judged = fit-told e;
+        state = λ z. absurd (counts z);
       }
 
 -- the rows go through a list alone, so that one lemma serves both answers
 pub rows-answered : {s r : Road} {cells : List ℕ} {up down : ℕ} {word : List ℕ} {out next : List ℤ} {a : PredictAnswer} → s ≡ r → Predicts s cells up down word out next a
     → (b : PredictAnswer) → a ≡ b → RowsPredicted r cells up down word out next (predictPlace b) (predictNumber b)
+unfolding predictAnswer
 rows-answered {r = r} {cells = cells} {up = up} {down = down} {word = word} {out = out} {next = next} {a = a} here called b e =
     let p = subst (λ (x : Road). Predicts x cells up down word out next a) here called in
+    let number = told predictNumber e (p .number) in
     record {
-      returned = told predictNumber e (p .number);
+      returned = number;
       placed = told predictPlace e (p .place);
       output = p .output;
       judged = judged-told (PredictJudged r cells up down word (length out)) (λ (x : PredictAnswer). refused (predictNumber x) (predictPlace x)) e (p .judged);
+      state = λ z. p .state (p .answer ∙ rw (eq-eqb _ 0 (sym number ∙ z)) refl);
     }
 
 module _ {s r : Road} {mode : ℕ} {left own right : Float} {a : CandidateAnswer} (here : s ≡ r) (called : Candidate.Candidates s mode left own right a) where
@@ -123,25 +131,32 @@ module _ {s r : Road} {mode : ℕ} {left own right : Float} {a : CandidateAnswer
   candidate-told e = judged-told (CandidateJudged r mode left own right) (λ (x : CandidateAnswer). refused (Candidate.meaning x .number) (Candidate.meaning x .place)) e (candidates .judged)
 
   pub candidate-done : {d : CandidateResult} {numerator : Float} → a ≡ C.Done d → CandidatePredicted r mode left own right numerator (d .numerator) 0 0
-  candidate-done e =
+  candidate-done {d} e =
       let m = told Candidate.meaning e (candidates .means) in
       record {
         returned = ap (λ (x : Candidate.Meaning). x .number) m;
         placed = ap (λ (x : Candidate.Meaning). x .place) m;
         numerator-written = ap (λ (x : Candidate.Meaning). x .value) m;
         judged = candidate-told e;
+        row-whole = λ z. candidates .row-whole d e;
+        exact = λ z. candidates .exact d e;
+        plain = λ z. candidates .plain d e;
       }
 
   pub candidate-refused : {f : Refusal} {numerator : Float} → a ≡ C.Refused f → CandidatePredicted r mode left own right numerator numerator (f .place) (f .number)
   unfolding candidateAnswer candidateMeaning
-  candidate-refused e =
+  candidate-refused {f} e =
       let m = told Candidate.meaning e (candidates .means) in
       let number = ap (λ (x : Candidate.Meaning). x .number) m in
+      let counts : f .number ≡ 0 → ⊥ = refusal-counts _ (λ q. cc (sym e ∙ q)) (candidates .answer) number in
       record {
         returned = number;
         placed = ap (λ (x : Candidate.Meaning). x .place) m;
-        numerator-written = refusal-keeps _ (λ q. cc (sym e ∙ q)) (candidates .answer) number _ _;
+        numerator-written = kept counts _ _;
         judged = candidate-told e;
+        row-whole = λ z. absurd (counts z);
+        exact = λ z. absurd (counts z);
+        plain = λ z. absurd (counts z);
       }
 
 module _ {cells : ℕ} {a : CountAnswer} (called : Count.CountsWords cells a) where
@@ -149,23 +164,26 @@ module _ {cells : ℕ} {a : CountAnswer} (called : Count.CountsWords cells a) wh
   count-told e = judged-told (CountJudged cells) (λ (x : CountAnswer). refused (Count.meaning x .number) (Count.meaning x .place)) e (called .judged)
 
   pub count-done : {d : WordCount} {words : ℕ} → a ≡ W.Done d → WordsCounted cells words (d .words) 0 0
-  count-done e =
+  count-done {d} e =
       let m = told Count.meaning e (called .means) in
       record {
         returned = ap (λ (x : Count.Meaning). x .number) m;
         placed = ap (λ (x : Count.Meaning). x .place) m;
         words-written = ap (λ (x : Count.Meaning). x .words) m;
         judged = count-told e;
+        counted = λ z. called .counted d e;
       }
 
   pub count-refused : {f : Refusal} {words : ℕ} → a ≡ W.Refused f → WordsCounted cells words words (f .place) (f .number)
   unfolding countAnswer countMeaning
-  count-refused e =
+  count-refused {f} e =
       let m = told Count.meaning e (called .means) in
       let number = ap (λ (x : Count.Meaning). x .number) m in
+      let counts : f .number ≡ 0 → ⊥ = refusal-counts _ (λ q. cc (sym e ∙ q)) (called .answer) number in
       record {
         returned = number;
         placed = ap (λ (x : Count.Meaning). x .place) m;
-        words-written = refusal-keeps _ (λ q. cc (sym e ∙ q)) (called .answer) number _ _;
+        words-written = kept counts _ _;
         judged = count-told e;
+        counted = λ z. absurd (counts z);
       }

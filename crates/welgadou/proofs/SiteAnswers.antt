@@ -11,7 +11,7 @@ use Rattle.site.specs.declared.stations.StationAnswer.the-variants.{Done, Refus
 use Rattle.site.specs.Station as Station
 use Rattle.site.specs.Station.{stationAnswer, stationMeaning, StationJudged}
 use Rattle.welgadou.specs.Level3.{StationEstimated}
-use Rattle.welgadou.proofs.Answers.{told, judged-told, refusal-counts, refusal-keeps}
+use Rattle.welgadou.proofs.Answers.{told, judged-told, refusal-counts, kept}
 
 module _ {r : Road} {x : StationReading} {a : StationAnswer} (called : Station.Stations r x a) where
   station-told : {b : StationAnswer} → a ≡ b → StationJudged r x (refused (Station.meaning b .number) (Station.meaning b .place))
@@ -37,7 +37,7 @@ module _ {r : Road} {x : StationReading} {a : StationAnswer} (called : Station.S
       record {
         returned = number;
         placed = ap (λ (y : Station.Meaning). y .place) m;
-        estimate-written = refusal-keeps _ (λ q. cc (sym e ∙ q)) (called .answer) number _ _;
+        estimate-written = kept counts _ _;
         judged = station-told e;
         feeds = λ z. absurd (counts z);
       }

@@ -6,6 +6,7 @@ use Prim.Native.Nat.{ℕ}
 use lib.ListN.{length}
 use Rattle.road.specs.Table.{refused}
 use Rattle.road.specs.declared.Road.{Road}
+use Rattle.scheme.specs.ByFaces.{RunByFaces}
 use Rattle.forecast.specs.Forecast.{forecastMeaning, forecastCells, ForecastJudged, Demand3}
 use Rattle.forecast.specs.Settle.{settleMeaning, settleOutput, SettleJudged, Settlement}
 use Rattle.welgadou.specs.Parts.{written, flagOf}
@@ -17,9 +18,10 @@ pub record Forecasted (r : Road) (cells ups downs : List ℕ) (t : ℕ) (out nex
   pub output : next ≡ forecastCells r cells ups downs t out
   pub entered-written : entered-next ≡ written number (forecastMeaning r cells ups downs t (length out) .entered) entered
   pub left-written : left-next ≡ written number (forecastMeaning r cells ups downs t (length out) .left) left
-  -- demands 1 and 3, of the number and place returned and of what is written
+  -- demands 1, 3 and 2, of the number and place returned and of what is written
   pub judged : ForecastJudged r cells ups downs t (length out) (refused number place)
   pub demand3 : number ≡ 0 → Demand3 r cells ups downs t next entered-next left-next
+  pub by-faces : number ≡ 0 → RunByFaces r ups downs cells next entered-next left-next
 
 -- welgadou_settle: the state, whether it settled, the steps made
 pub record SettledRun (r : Road) (cells : List ℕ) (up down t : ℕ) (out next : List ℕ) (settled settled-next steps steps-next place number : ℕ) : Type 0 where

@@ -1,19 +1,23 @@
--- What the C calls of Level 2 promise: the number returned, and every pointer's contents, from the definitions of the calls below, and
--- demand 1 of the number and place (`judged`).
+-- What the C calls of Level 2 promise: the number returned, and every pointer's contents, from the definitions of the calls below;
+-- demand 1 of the number and place (`judged`); and demand 2 of what an accepted call writes.
 use mathlib.Core.Path.{_≡_}
+use mathlib.Core.Bool.{Bool, true}
 use mathlib.Core.List.{List}
 use Prim.Native.Nat.{ℕ}
-use lib.IntN.{ℤ}
+use lib.IntN.{ℤ, pos}
 use lib.ListN.{length}
-use lib.Ieee.{Float}
+use lib.Ieee.{Float, fin}
 use Rattle.road.specs.Table.{refused}
 use Rattle.road.specs.declared.Road.{Road}
 use Rattle.modes.specs.Judging.{readRefusal, predictRefusal}
-use Rattle.modes.specs.Reading.{readAnswer, readLetters, readModes, ReadJudged}
-use Rattle.modes.specs.Fit.{fitMeaning, FitJudged}
-use Rattle.modes.specs.Prediction.{predicted, PredictJudged}
-use Rattle.modes.specs.Candidate.{candidateMeaning, CandidateJudged}
+use Rattle.floats.specs.Worth.{Worth}
+use Rattle.modes.specs.Modes.{rowValue}
+use Rattle.modes.specs.Reading.{readAnswer, readLetters, readModes, ReadJudged, ReadState}
+use Rattle.modes.specs.Fit.{fitMeaning, FitJudged, FitState}
+use Rattle.modes.specs.Prediction.{predicted, PredictJudged, PredictState}
+use Rattle.modes.specs.Candidate.{candidateMeaning, CandidateJudged, RowWhole, Whole}
 use Rattle.modes.specs.Count.{countMeaning, CountJudged}
+use Rattle.modes.specs.LegalWordsCounted.{LegalWordsCounted}
 use Rattle.welgadou.specs.Parts.{written, flagOf}
 
 -- welgadou_read: the letters, the modes, the seven counts, the queued cells
@@ -25,6 +29,7 @@ pub record StateRead (r : Road) (cells : List ℕ) (up down : ℕ) (letters lett
   pub counts-written : counts-next ≡ written number (readAnswer r cells up down (length letters) (length modes) .counts .modes) counts
   pub queued-written : queued-next ≡ written number (readAnswer r cells up down (length letters) (length modes) .counts .queued) queued
   pub judged : ReadJudged r cells up down (length letters) (length modes) (refused number place)
+  pub state : number ≡ 0 → ReadState r cells up down letters-next modes-next (record { modes = counts-next; queued = queued-next })
 
 -- welgadou_fit: whether all faces of the word hold, the lowest that does not
 pub record WordFitted (r : Road) (cells : List ℕ) (up down : ℕ) (word : List ℕ) (holds holds-next face face-next place number : ℕ) : Type 0 where
@@ -33,6 +38,7 @@ pub record WordFitted (r : Road) (cells : List ℕ) (up down : ℕ) (word : List
   pub holds-written : holds-next ≡ written number (flagOf (fitMeaning r cells up down word .holds)) holds
   pub face-written : face-next ≡ written number (fitMeaning r cells up down word .face) face
   pub judged : FitJudged r cells up down word (refused number place)
+  pub state : number ≡ 0 → (b : Bool) × (holds-next ≡ flagOf b) × FitState r cells up down word (record { holds = b; face = face-next })
 
 -- welgadou_rows: the row numerators
 pub record RowsPredicted (r : Road) (cells : List ℕ) (up down : ℕ) (word : List ℕ) (out next : List ℤ) (place number : ℕ) : Type 0 where
@@ -40,6 +46,7 @@ pub record RowsPredicted (r : Road) (cells : List ℕ) (up down : ℕ) (word : L
   pub placed : place ≡ predictRefusal r cells up down word (length out) .place
   pub output : next ≡ predicted r cells up down word out
   pub judged : PredictJudged r cells up down word (length out) (refused number place)
+  pub state : number ≡ 0 → PredictState r cells up down word next
 
 -- welgadou_candidate: the numerator
 pub record CandidatePredicted (r : Road) (mode : ℕ) (left own right numerator numerator-next : Float) (place number : ℕ) : Type 0 where
@@ -47,6 +54,9 @@ pub record CandidatePredicted (r : Road) (mode : ℕ) (left own right numerator 
   pub placed : place ≡ candidateMeaning r mode left own right .place
   pub numerator-written : numerator-next ≡ written number (candidateMeaning r mode left own right .value) numerator
   pub judged : CandidateJudged r mode left own right (refused number place)
+  pub row-whole : number ≡ 0 → RowWhole r mode
+  pub exact : number ≡ 0 → (l o t : ℕ) → Worth left (pos l) → Worth own (pos o) → Worth right (pos t) → Whole numerator-next (rowValue r mode l o t)
+  pub plain : number ≡ 0 → (e : ℤ) → numerator-next ≡ fin true 0 e → ⊥
 
 -- welgadou_count: the number of legal words
 pub record WordsCounted (cells words words-next place number : ℕ) : Type 0 where
@@ -54,3 +64,4 @@ pub record WordsCounted (cells words words-next place number : ℕ) : Type 0 whe
   pub placed : place ≡ countMeaning cells .place
   pub words-written : words-next ≡ written number (countMeaning cells .words) words
   pub judged : CountJudged cells (refused number place)
+  pub counted : number ≡ 0 → LegalWordsCounted cells words-next

@@ -1,11 +1,11 @@
 -- What the C calls of Level 3 promise: the number returned, and every pointer's contents, from the definitions of the call below, and
--- demand 1 of the number and place (`judged`).
+-- demand 1 of the number and place (`judged`), and of an estimate that is written (`feeds`).
 use mathlib.Core.Path.{_≡_}
 use Prim.Native.Nat.{ℕ}
-use lib.Ieee.{Float, binary64}
+use lib.Ieee.{Float}
 use Rattle.road.specs.Table.{refused}
 use Rattle.road.specs.declared.Road.{Road}
-use Rattle.floats.specs.Worth.{Passes}
+use Rattle.floats.specs.Worth.{FiniteUpTo}
 use Rattle.site.specs.declared.stations.StationReading.{StationReading}
 use Rattle.site.specs.Station.{stationMeaning, StationJudged}
 use Rattle.welgadou.specs.Parts.{written}
@@ -16,5 +16,5 @@ pub record StationEstimated (r : Road) (x : StationReading) (estimate estimate-n
   pub placed : place ≡ stationMeaning r x .place
   pub estimate-written : estimate-next ≡ written number (stationMeaning r x .density) estimate
   pub judged : StationJudged r x (refused number place)
-  -- an estimate that is written is accepted by welgadou_candidate on the same road, in each of its three places
-  pub feeds : number ≡ 0 → Passes binary64 (r .jam) estimate-next
+  -- an estimate that is written is a finite number from 0 to J: welgadou_candidate accepts it on the same road, in each of its three places
+  pub feeds : number ≡ 0 → FiniteUpTo (r .jam) estimate-next

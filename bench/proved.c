@@ -1,0 +1,48 @@
+/* The proved calls as kernels: each accepted call's results, or an end. */
+#include <stdio.h>
+#include <stdlib.h>
+#include "kernels.h"
+#include "welgadou.h"
+
+#define ROAD(r) (r)->divisor, (r)->free, (r)->wave, (r)->jam, (r)->critical
+
+static void accepted(uint32_t number, uint32_t place)
+{
+    if (number != 0) {
+        fprintf(stderr, "refused %u at %u\n", number, place);
+        exit(1);
+    }
+}
+
+void proved_forecast(const struct road *r, const uint32_t *x, size_t n, const uint32_t *ups, const uint32_t *downs,
+                            uint32_t horizon, uint32_t *out, uint64_t *entered, uint64_t *left)
+{
+    uint32_t place;
+    uint32_t number = welgadou_forecast(ROAD(r), x, n, ups, horizon, downs, horizon, horizon, out, n, entered, left,
+                                        &place);
+    accepted(number, place);
+}
+
+void proved_settle(const struct road *r, const uint32_t *x, size_t n, uint32_t before, uint32_t after,
+                          uint32_t horizon, uint32_t *out, uint32_t *settled, uint32_t *steps)
+{
+    uint32_t place;
+    uint32_t number = welgadou_settle(ROAD(r), x, n, before, after, horizon, out, n, settled, steps, &place);
+    accepted(number, place);
+}
+
+void proved_read(const struct road *r, const uint32_t *x, size_t n, uint32_t before, uint32_t after,
+                        uint8_t *letters, uint8_t *modes, uint32_t *counts, uint32_t *queued)
+{
+    uint32_t place;
+    uint32_t number = welgadou_read(ROAD(r), x, n, before, after, letters, n + 1, modes, n, counts, queued, &place);
+    accepted(number, place);
+}
+
+void proved_rows(const struct road *r, const uint32_t *x, size_t n, uint32_t before, uint32_t after,
+                        const uint8_t *letters, int64_t *out)
+{
+    uint32_t place;
+    uint32_t number = welgadou_rows(ROAD(r), x, n, before, after, letters, n + 1, out, n, &place);
+    accepted(number, place);
+}

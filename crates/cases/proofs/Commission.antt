@@ -1,0 +1,308 @@
+-- The commission is met: each sentence from the public contracts alone.
+use mathlib.Core.Path.{_≡_, _∙_, refl, sym, ap}
+use mathlib.Core.Bool.{Bool, true, false}
+use mathlib.Core.List.{List}
+use Prim.Native.Nat.{ℕ}
+use native.Mathlib.Omega.{arith}
+use lib.Dec.{eqb}
+use lib.IntN.{ℤ, pos}
+use lib.Ieee.{Float, fin, binary64, ofInt}
+use lib.ListN.{length}
+use borrow.Author.Tests.{eq-eqb, ne-eqb}
+use Rattle.road.specs.Choice.{pick}
+use Rattle.road.specs.Table.{Row, judge, Judged}
+use Rattle.road.specs.declared.Road.{Road}
+use Rattle.road.specs.declared.refusal.Refusal.{Refusal}
+use Rattle.checks.specs.Values.{FirstAbove}
+use Rattle.checks.specs.Places.{Placed}
+use Rattle.scheme.specs.Rounded.{entered, left}
+use Rattle.scheme.specs.ByFaces.{RunByFaces}
+use Rattle.forecast.specs.Forecast as Forecast
+use Rattle.forecast.specs.Forecast.{forecastRefusal, forecastAnswer, forecastCells, forecastMeaning}
+use Rattle.forecast.specs.Settle as Settle
+use Rattle.forecast.specs.Settle.{settleRefusal, settleAnswer, settleOutput, settleMeaning, Settlement}
+use Rattle.floats.specs.Worth.{Worth, FiniteUpTo}
+use Rattle.modes.specs.Words.{wordCount}
+use Rattle.modes.specs.Modes.{rowValue}
+use Rattle.modes.specs.Judging.{readRefusal, fitRefusal, predictRefusal}
+use Rattle.modes.specs.Places.{PairWordPlaced}
+use Rattle.modes.specs.declared.reading.StateReading.{StateReading}
+use Rattle.modes.specs.declared.reading.Counts.{Counts}
+use Rattle.modes.specs.Reading.{countsOf, readAnswer, readLetters, readModes, ReadState}
+use Rattle.modes.specs.Fit as Fit
+use Rattle.modes.specs.Fit.{fitAnswer, fitMeaning, FitState}
+use Rattle.modes.specs.Prediction.{predictAnswer, predicted, PredictState}
+use Rattle.modes.specs.Candidate as Candidate
+use Rattle.modes.specs.Candidate.{candidateRefusal, candidateAnswer, candidateNumerator, candidateMeaning, CandidatePlaced, CandidateChecked, RowWhole}
+use Rattle.modes.specs.Count as Count
+use Rattle.modes.specs.Count.{countRefusal, countAnswer, countMeaning}
+use Rattle.modes.specs.LegalWordsCounted.{LegalWordsCounted}
+use Rattle.modes.proofs.SevenModes.{seven-modes}
+use Rattle.site.specs.Station as Station
+use Rattle.site.specs.Station.{estimateOf, stationRefusal, stationAnswer, stationMeaning}
+use Rattle.welgadou.specs.Parts.{flagOf}
+use Rattle.cases.specs.Calls.{ValuePlaces, PairWordPlaces, EstimatePlace, Outcome, Called, forecast, settle, read, fit, predict, candidate, count, station, welgadou-forecast, welgadou-settle, welgadou-read, welgadou-fit, welgadou-rows, welgadou-candidate, welgadou-count, welgadou-station, AcceptedForecast, ForecastMade, AcceptedSettling, SettlingMade, AcceptedReading, ReadingMade, AcceptedFit, FitMade, AcceptedRows, RowsMade, AcceptedCandidate, CandidateMade, AcceptedCount, CountMade, AcceptedStation, StationMade}
+use Rattle.cases.specs.Commission.{Demand1, Demand2, Demand3, Commission}
+
+-- what is chosen by a call's number: the value where it is 0, else the former contents
+value-of : {A : Type 0} {number : ℕ} {got : A} (value former : A) → number ≡ 0 → got ≡ pick (eqb number 0) value former → got ≡ value
+value-of {number = number} value former z e = e ∙ rw (eq-eqb number 0 z) refl
+
+former-of : {A : Type 0} {number : ℕ} {got : A} (value former : A) → (number ≡ 0 → ⊥) → got ≡ pick (eqb number 0) value former → got ≡ former
+former-of {number = number} value former n e = e ∙ rw (ne-eqb number 0 n) refl
+
+-- ---- demand 1
+-- the places, told
+value-places : {r : Road} {cells ups downs : List ℕ} (f : Refusal) → Placed r cells ups downs f → ValuePlaces r cells ups downs f
+value-places f p = (
+  λ e. let (k, here, first) = p .cell e in (k, here, (first .above, first .earlier)),
+  λ e. let first = p .up e in (first .above, first .earlier),
+  λ e. let first = p .down e in (first .above, first .earlier),
+)
+
+word-places : {r : Road} {cells : List ℕ} {up down : ℕ} {word : List ℕ} (f : Refusal)
+    → PairWordPlaced r cells up down word f → PairWordPlaces r cells up down word f
+word-places f p = (
+  value-places f (p .values),
+  λ e. let w = p .face e in (w .other-length, λ long. (w .face long, w .offends-there long, w .earlier long)),
+)
+
+estimate-place : (r : Road) (left own right : Float) (f : Refusal) → CandidatePlaced r left own right f → EstimatePlace r left own right f
+estimate-place r left own right f p e = let w = p e in (w .low, w .high, w .first, w .second, w .third)
+
+-- what demand 1 says of a call
+record Told (o : Outcome) : Type 1 where
+  judged : Judged (o .rows) (o .Checked) (o .Placed) (o .refusal)
+  kept : (o .refusal .number ≡ 0 → ⊥) → o .Kept
+  table : o .refusal ≡ judge (o .rows)
+  made : o .refusal .number ≡ 0 → o .Made
+
+told-as : {rows : List Row} {Checked : Type 0} {From To : Refusal → Type 0} {f : Refusal}
+    → ((g : Refusal) → From g → To g) → Judged rows Checked From f → Judged rows Checked To f
+told-as {f = f} says j = record { lowest = j .lowest; placed = says f (j .placed); accepted = j .accepted; no-other = j .no-other }
+
+told : (o : Outcome) → Called o → Told o
+unfolding forecastRefusal forecastAnswer forecastCells forecastMeaning settleRefusal settleAnswer settleOutput settleMeaning readRefusal readAnswer readLetters readModes fitRefusal fitAnswer fitMeaning predictRefusal predictAnswer predicted candidateRefusal candidateAnswer candidateMeaning countRefusal countAnswer countMeaning stationRefusal stationAnswer stationMeaning
+told _ (forecast c) = record {
+  judged = told-as value-places (c .judged);
+  kept = λ n. former-of _ _ (λ z. n (ap (λ (m : Forecast.Meaning). m .number) (c .means) ∙ z)) (c .output);
+  table = λ i. record { number = c .means i .number; place = c .means i .place };
+  made = λ z. (_, value-of _ _ (sym (ap (λ (m : Forecast.Meaning). m .number) (c .means)) ∙ z) (c .answer));
+}
+told _ (settle c) = record {
+  judged = told-as value-places (c .judged);
+  kept = λ n. former-of _ _ (λ z. n (ap (λ (m : Settle.Meaning). m .number) (c .means) ∙ z)) (c .output);
+  table = λ i. record { number = c .means i .number; place = c .means i .place };
+  made = λ z. (_, value-of _ _ (sym (ap (λ (m : Settle.Meaning). m .number) (c .means)) ∙ z) (c .answer));
+}
+told _ (read c) = record {
+  judged = told-as value-places (c .judged);
+  kept = λ n. (former-of _ _ (λ z. n (c .number ∙ z)) (c .letters-written), former-of _ _ (λ z. n (c .number ∙ z)) (c .modes-written));
+  table = λ i. record { number = c .number i; place = c .place i };
+  made = λ z. ap (λ (x : StateReading). x .answer) (value-of _ _ (sym (c .number) ∙ z) (c .answer));
+}
+told _ (fit c) = record { judged = told-as word-places (c .judged); kept = λ n. tt; table = λ i. record { number = c .means i .number; place = c .means i .place }; made = λ z. (_, value-of _ _ (sym (ap (λ (m : Fit.Meaning). m .number) (c .means)) ∙ z) (c .answer)) }
+told _ (predict c) = record { judged = told-as word-places (c .judged); kept = λ n. former-of _ _ (λ z. n (c .number ∙ z)) (c .output); table = λ i. record { number = c .number i; place = c .place i }; made = λ z. value-of _ _ (sym (c .number) ∙ z) (c .answer) }
+told _ (candidate {r = r} c) = record { judged = told-as (estimate-place r _ _ _) (c .judged); kept = λ n. tt; table = λ i. record { number = c .means i .number; place = c .means i .place }; made = λ z. (_, value-of _ _ (sym (ap (λ (m : Candidate.Meaning). m .number) (c .means)) ∙ z) (c .answer)) }
+told _ (count c) = record { judged = c .judged; kept = λ n. tt; table = λ i. record { number = c .means i .number; place = c .means i .place }; made = λ z. (_, value-of _ _ (sym (ap (λ (m : Count.Meaning). m .number) (c .means)) ∙ z) (c .answer)) }
+told _ (station c) = record { judged = c .judged; kept = λ n. tt; table = λ i. record { number = c .means i .number; place = c .means i .place }; made = λ z. (_, value-of _ _ (sym (ap (λ (m : Station.Meaning). m .number) (c .means)) ∙ z) (c .answer)) }
+told _ (welgadou-forecast c) = record {
+  judged = told-as value-places (c .judged);
+  kept = λ n. (former-of _ _ (λ z. n (c .returned ∙ z)) (c .output), former-of _ _ n (c .entered-written), former-of _ _ n (c .left-written));
+  table = λ i. record { number = c .returned i; place = c .placed i };
+  made = λ z. tt;
+}
+told _ (welgadou-settle c) = record {
+  judged = told-as value-places (c .judged);
+  kept = λ n. (former-of _ _ (λ z. n (c .returned ∙ z)) (c .output), former-of _ _ n (c .settled-written), former-of _ _ n (c .steps-written));
+  table = λ i. record { number = c .returned i; place = c .placed i };
+  made = λ z. let (b, same, says) = c .settlement z in (b, same);
+}
+told _ (welgadou-read c) = record {
+  judged = told-as value-places (c .judged);
+  kept = λ n. (
+    former-of _ _ (λ z. n (c .returned ∙ z)) (c .letters-written),
+    former-of _ _ (λ z. n (c .returned ∙ z)) (c .modes-written),
+    former-of _ _ n (c .counts-written),
+    former-of _ _ n (c .queued-written),
+  );
+  table = λ i. record { number = c .returned i; place = c .placed i };
+  made = λ z. tt;
+}
+told _ (welgadou-fit c) = record { judged = told-as word-places (c .judged); kept = λ n. (former-of _ _ n (c .holds-written), former-of _ _ n (c .face-written)); table = λ i. record { number = c .returned i; place = c .placed i }; made = λ z. let (b, same, says) = c .state z in (b, same) }
+told _ (welgadou-rows c) = record { judged = told-as word-places (c .judged); kept = λ n. former-of _ _ (λ z. n (c .returned ∙ z)) (c .output); table = λ i. record { number = c .returned i; place = c .placed i }; made = λ z. tt }
+told _ (welgadou-candidate {r = r} c) = record { judged = told-as (estimate-place r _ _ _) (c .judged); kept = λ n. former-of _ _ n (c .numerator-written); table = λ i. record { number = c .returned i; place = c .placed i }; made = λ z. tt }
+told _ (welgadou-count c) = record { judged = c .judged; kept = λ n. former-of _ _ n (c .words-written); table = λ i. record { number = c .returned i; place = c .placed i }; made = λ z. tt }
+told _ (welgadou-station c) = record { judged = c .judged; kept = λ n. former-of _ _ n (c .estimate-written); table = λ i. record { number = c .returned i; place = c .placed i }; made = λ z. tt }
+
+demand1 : Demand1
+demand1 = record {
+  judges = λ o c. told o c .judged .accepted;
+  fitting = λ o c. told o c .judged .lowest .applies;
+  returned = λ o c. told o c .judged .lowest .returned;
+  first = λ o c. told o c .judged .lowest .lowest;
+  place = λ o c. told o c .judged .placed;
+  table = λ o c. told o c .table;
+  no-other = λ o c. told o c .judged .no-other;
+  made = λ o c. told o c .made;
+  kept = λ o c. told o c .kept;
+}
+
+-- ---- what each accepted call made, in one form for both layers
+-- an accepted forecast: demand 3, its steps face by face, and its sums
+record ForecastSays (x : AcceptedForecast) : Type 0 where
+  demand3 : Forecast.Demand3 (x .road) (x .cells) (x .ups) (x .downs) (x .horizon) (x .next) (x .entered) (x .left)
+  by-faces : RunByFaces (x .road) (x .ups) (x .downs) (x .cells) (x .next) (x .entered) (x .left)
+  in-sum : x .entered ≡ entered (x .road) (x .ups) (x .downs) (x .cells)
+  out-sum : x .left ≡ left (x .road) (x .ups) (x .downs) (x .cells)
+
+forecast-says : (x : AcceptedForecast) → ForecastMade x → ForecastSays x
+unfolding forecastMeaning
+forecast-says _ (forecast {d = d} c e) =
+    let m = ap Forecast.meaning (sym e) ∙ c .means in
+    let none = sym (ap (λ (x : Forecast.Meaning). x .number) m) in
+    record {
+      demand3 = c .demand3 d e;
+      by-faces = c .by-faces d e;
+      in-sum = value-of _ _ none (ap (λ (x : Forecast.Meaning). x .entered) m);
+      out-sum = value-of _ _ none (ap (λ (x : Forecast.Meaning). x .left) m);
+    }
+forecast-says _ (welgadou-forecast c z) =
+    let none = sym (c .returned) ∙ z in
+    record {
+      demand3 = c .demand3 z;
+      by-faces = c .by-faces z;
+      in-sum = value-of _ _ none (value-of _ _ z (c .entered-written));
+      out-sum = value-of _ _ none (value-of _ _ z (c .left-written));
+    }
+
+-- a flag tells its test
+same-flag : (b c : Bool) → flagOf b ≡ flagOf c → b ≡ c
+same-flag true true e = refl
+same-flag true false e = absurd (omega arith)
+same-flag false true e = absurd (omega arith)
+same-flag false false e = refl
+
+settling-says : (x : AcceptedSettling) → SettlingMade x
+    → Settlement (x .road) (x .cells) (x .up) (x .down) (x .horizon) (x .next) (record { settled = x .settled; steps = x .steps })
+settling-says _ (settle {s = s} c e) = c .settlement s e
+settling-says _ (welgadou-settle {b = b} c z q) = let (d, same, says) = c .settlement z in rw (same-flag b d (sym q ∙ same)) says
+
+reading-says : (x : AcceptedReading) → ReadingMade x
+    → ReadState (x .road) (x .cells) (x .up) (x .down) (x .letters) (x .modes) (record { modes = x .counts; queued = x .queued })
+reading-says _ (read c e) = c .state e
+reading-says _ (welgadou-read c z) = c .state z
+
+fit-says : (x : AcceptedFit) → FitMade x
+    → FitState (x .road) (x .cells) (x .up) (x .down) (x .word) (record { holds = x .holds; face = x .face })
+fit-says _ (fit {f = f} c e) = c .state f e
+fit-says _ (welgadou-fit {b = b} c z q) = let (d, same, says) = c .state z in rw (same-flag b d (sym q ∙ same)) says
+
+rows-say : (x : AcceptedRows) → RowsMade x → PredictState (x .road) (x .cells) (x .up) (x .down) (x .word) (x .rows)
+rows-say _ (predict c e) = c .state e
+rows-say _ (welgadou-rows c z) = c .state z
+
+count-says : (x : AcceptedCount) → CountMade x → (x .words ≡ wordCount (x .cells)) × LegalWordsCounted (x .cells) (x .words)
+unfolding countMeaning
+count-says _ (count {c = words} c e) =
+    let m = ap Count.meaning (sym e) ∙ c .means in
+    (value-of _ _ (sym (ap (λ (x : Count.Meaning). x .number) m)) (ap (λ (x : Count.Meaning). x .words) m), c .counted words e)
+count-says _ (welgadou-count c z) = (value-of _ _ (sym (c .returned) ∙ z) (value-of _ _ z (c .words-written)), c .counted z)
+
+-- a candidate prediction by its contract's equation, and the input that it accepted
+candidate-equals : (x : AcceptedCandidate) → CandidateMade x
+    → (x .numerator ≡ candidateNumerator (x .road) (x .mode) (x .left) (x .own) (x .right)) × CandidateChecked (x .road) (x .mode) (x .left) (x .own) (x .right)
+unfolding candidateMeaning
+candidate-equals _ (candidate c e) =
+    let m = ap Candidate.meaning (sym e) ∙ c .means in
+    let same = ap (λ (x : Candidate.Meaning). x .number) m in
+    (value-of _ _ (sym same) (ap (λ (x : Candidate.Meaning). x .value) m), c .judged .accepted (ap (λ (x : Candidate.Meaning). x .number) (c .means) ∙ sym same))
+candidate-equals _ (welgadou-candidate c z) = (value-of _ _ (sym (c .returned) ∙ z) (value-of _ _ z (c .numerator-written)), c .judged .accepted z)
+
+candidate-row : (x : AcceptedCandidate) → CandidateMade x → RowWhole (x .road) (x .mode)
+candidate-row _ (candidate {p = p} c e) = c .row-whole p e
+candidate-row _ (welgadou-candidate c z) = c .row-whole z
+
+whole-says : (x : AcceptedCandidate) → CandidateMade x → (l o t : ℕ) → Worth (x .left) (pos l) → Worth (x .own) (pos o) → Worth (x .right) (pos t)
+    → (x .numerator ≡ ofInt binary64 (rowValue (x .road) (x .mode) l o t)) × Worth (x .numerator) (rowValue (x .road) (x .mode) l o t)
+whole-says _ (candidate {p = p} c e) l o t l-is o-is t-is = let w = c .exact p e l o t l-is o-is t-is in (w .same, w .worth)
+whole-says _ (welgadou-candidate c z) l o t l-is o-is t-is = let w = c .exact z l o t l-is o-is t-is in (w .same, w .worth)
+
+plain-says : (x : AcceptedCandidate) → CandidateMade x → (e : ℤ) → x .numerator ≡ fin true 0 e → ⊥
+plain-says _ (candidate {p = p} c e) = c .plain p e
+plain-says _ (welgadou-candidate c z) = c .plain z
+
+station-says : (x : AcceptedStation) → StationMade x → (x .estimate ≡ estimateOf (x .road) (x .reading)) × FiniteUpTo (x .road .jam) (x .estimate)
+unfolding stationMeaning
+station-says _ (station {e = d} c e) =
+    let m = ap Station.meaning (sym e) ∙ c .means in
+    (value-of _ _ (sym (ap (λ (x : Station.Meaning). x .number) m)) (ap (λ (x : Station.Meaning). x .density) m), c .feeds d e)
+station-says _ (welgadou-station c z) = (value-of _ _ (sym (c .returned) ∙ z) (value-of _ _ z (c .estimate-written)), c .feeds z)
+
+demand2 : Demand2
+unfolding countsOf
+demand2 = record {
+  flow-W = λ x c k h. reading-says x c .flow k h .W;
+  flow-L = λ x c k h. reading-says x c .flow k h .L;
+  flow-D = λ x c k h. reading-says x c .flow k h .D;
+  table = seven-modes;
+  modes = λ x c. (reading-says x c .moded, reading-says x c .modes-long);
+  one-of-seven = λ x c. reading-says x c .numbered;
+  rows = λ x c. (rows-say x c .written, rows-say x c .long);
+  letter-W = λ x c k h. reading-says x c .lettered k h .W;
+  letter-L = λ x c k h. reading-says x c .lettered k h .L;
+  letter-D = λ x c k h. reading-says x c .lettered k h .D;
+  one-of-three = λ x c k h. reading-says x c .lettered k h .known;
+  letters = λ x c. reading-says x c .own .long;
+  compared-W = λ x c k h. fit-says x c .lettered k h .W;
+  compared-L = λ x c k h. fit-says x c .lettered k h .L;
+  compared-D = λ x c k h. fit-says x c .lettered k h .D;
+  steps = λ x c. forecast-says x c .by-faces;
+  settling-steps = λ x c. settling-says x c .by-faces;
+  own-rows = λ x c e. rows-say x c .own e .exact;
+  own-rows-exact = λ x c e. rows-say x c .own e .exact-step;
+  own-rows-near = λ x c e. rows-say x c .own e .near;
+  entered = λ x c. forecast-says x c .in-sum;
+  left = λ x c. forecast-says x c .out-sum;
+  still-next = λ x c e. let s = settling-says x c in (s .least .within e, rw (s .state) (s .least .found e));
+  none-still = λ x c. settling-says x c .least .none;
+  none-before = λ x c. settling-says x c .least .before;
+  settled-state = λ x c. settling-says x c .state;
+  settled-within = λ x c. (settling-says x c .long, settling-says x c .within);
+  fits = λ x c. fit-says x c .all;
+  no-misfit = λ x c. fit-says x c .no-face;
+  misfit = λ x c e. let m = fit-says x c .lowest e in (m .inside, m .differs, m .lower);
+  own-word = λ x c. (reading-says x c .word, reading-says x c .own .allowed);
+  own-holds = λ x c word. let own = reading-says x c .own in (own .only word, λ e. rw e (own .fits));
+  own-fits = λ x c. reading-says x c .fit;
+  only-fits = λ x c. reading-says x c .fit-only;
+  counts = λ x c. ap (λ (k : Counts). k .modes) (reading-says x c .counted);
+  counts-sum = λ x c. reading-says x c .counts-sum;
+  queued = λ x c. reading-says x c .queued;
+  words = λ x c. (count-says x c .0, count-says x c .1 .number);
+  words-every = λ x c. count-says x c .1 .every;
+  words-only = λ x c. count-says x c .1 .only;
+  words-once = λ x c. count-says x c .1 .once;
+  words-occur = λ x c low word long allowed r ok. let o = count-says x c .1 .occurs low word long allowed r ok in (o .own, o .checked, o .written);
+  word-occurs = λ x c. let o = rows-say x c .occurs in (o .own, o .checked, o .written);
+  candidate = λ x c. candidate-equals x c .0;
+  candidate-row = λ x c. let w = candidate-row x c in (w .left, w .own, w .right, w .constant);
+  estimates = λ x c. let k = candidate-equals x c .1 in (k .left-finite, k .own-finite, k .right-finite);
+  candidate-whole = whole-says;
+  candidate-plain = plain-says;
+  station = station-says;
+}
+
+demand3 : Demand3
+demand3 = record {
+  pairs = λ x c. let d = forecast-says x c .demand3 in (d .ups-long, d .downs-long);
+  densities = λ x c. let d = forecast-says x c .demand3 in (d .after-steps, d .long);
+  within = λ x c. forecast-says x c .demand3 .within;
+  balanced = λ x c. forecast-says x c .demand3 .balanced;
+  near = λ x c. forecast-says x c .demand3 .near;
+  exact-cells = λ x c. forecast-says x c .demand3 .exact-long;
+  exact-steps = λ x c. forecast-says x c .demand3 .exact-steps;
+}
+
+pub commission : Commission
+commission = record { demand1 = demand1; demand2 = demand2; demand3 = demand3 }

@@ -1,0 +1,104 @@
+-- Every number of the refusal table, computed from the definitions.
+use mathlib.Core.Path.{refl}
+use lib.Ieee.{round, sum, add, mul, div, lt, eq, le, ne, ofInt, ofBits}
+use Rattle.road.specs.Table.{orIf}
+use Rattle.road.specs.Judgement.{roadRefusal}
+use Rattle.checks.specs.Values.{firstAbove}
+use Rattle.forecast.specs.Forecast.{forecastRefusal, forecastAnswer}
+use Rattle.forecast.specs.Settle.{settleRefusal, settleAnswer}
+use Rattle.modes.specs.Words.{illegalPair, offends, firstOffence, legal}
+use Rattle.modes.specs.Judging.{readRefusal, fitRefusal, predictRefusal}
+use Rattle.modes.specs.Reading.{readAnswer}
+use Rattle.modes.specs.Fit.{fitAnswer}
+use Rattle.modes.specs.Prediction.{predictAnswer}
+use Rattle.modes.specs.Candidate.{candidateRefusal, candidateAnswer}
+use Rattle.modes.specs.Count.{countRefusal, countAnswer}
+use Rattle.site.specs.Station.{speedDensity, estimateOf, badNumber, badGiven, tooFast, stationRefusal, stationAnswer}
+use Rattle.cases.specs.Refusals.{Refusals}
+
+pub refusals : Refusals
+unfolding round sum add mul div lt eq le ne ofInt ofBits orIf roadRefusal firstAbove forecastRefusal forecastAnswer settleRefusal settleAnswer illegalPair offends firstOffence legal readRefusal fitRefusal predictRefusal readAnswer fitAnswer predictAnswer candidateRefusal candidateAnswer countRefusal countAnswer speedDensity estimateOf badNumber badGiven tooFast stationRefusal stationAnswer
+refusals = record {
+  road-1 = refl;
+  road-2 = refl;
+  road-3 = refl;
+  road-4 = refl;
+  forecast-1 = refl;
+  forecast-2 = refl;
+  forecast-3 = refl;
+  forecast-4 = refl;
+  forecast-5-none = refl;
+  forecast-5-many = refl;
+  forecast-6 = refl;
+  forecast-7-up = refl;
+  forecast-7-down = refl;
+  forecast-8 = refl;
+  forecast-9 = refl;
+  forecast-10 = refl;
+  forecast-11 = refl;
+  settle-1 = refl;
+  settle-2 = refl;
+  settle-3 = refl;
+  settle-4 = refl;
+  settle-5 = refl;
+  settle-6 = refl;
+  settle-8 = refl;
+  settle-9 = refl;
+  settle-10 = refl;
+  settle-11 = refl;
+  read-1 = refl;
+  read-2 = refl;
+  read-3 = refl;
+  read-4 = refl;
+  read-5 = refl;
+  read-8-letters = refl;
+  read-8-modes = refl;
+  read-9 = refl;
+  read-10 = refl;
+  read-11 = refl;
+  fit-1 = refl;
+  fit-2 = refl;
+  fit-3 = refl;
+  fit-4 = refl;
+  fit-5 = refl;
+  fit-9 = refl;
+  fit-10 = refl;
+  fit-11 = refl;
+  fit-12-length = refl;
+  fit-12-code = refl;
+  fit-12-pair-W-D = refl;
+  fit-12-pair-L-L = refl;
+  predict-1 = refl;
+  predict-2 = refl;
+  predict-3 = refl;
+  predict-4 = refl;
+  predict-5 = refl;
+  predict-8 = refl;
+  predict-9 = refl;
+  predict-10 = refl;
+  predict-11 = refl;
+  predict-12-length = refl;
+  predict-12-code = refl;
+  predict-12-pair-W-D = refl;
+  predict-12-pair-L-L = refl;
+  candidate-1 = refl;
+  candidate-2 = refl;
+  candidate-3 = refl;
+  candidate-4 = refl;
+  candidate-13-low = refl;
+  candidate-13-high = refl;
+  candidate-14-left = refl;
+  candidate-14-own = refl;
+  candidate-14-right = refl;
+  count-15 = refl;
+  station-1 = refl;
+  station-2 = refl;
+  station-3 = refl;
+  station-4 = refl;
+  station-16-infinite = refl;
+  station-16-below-0 = refl;
+  station-16-no-number = refl;
+  station-16-zero-speed = refl;
+  station-17 = refl;
+  station-18 = refl;
+}

@@ -1,0 +1,416 @@
+-- Every public call there is, of Rattle and of C, by its contract alone: what it did with any input, and what it made of an accepted one.
+-- The public calls are those of `forecast`, `modes` and `site` that say no "Internal", and the C form of each. The five ceilings for C take no input and hand
+-- back a constant; they have nothing to judge. The answers' cases go by a letter: F forecast, S settling, R reading, T fit test, P row prediction,
+-- C candidate, N count, E station.
+use mathlib.Core.Path.{_≡_}
+use mathlib.Core.Bool.{Bool, true, false}
+use mathlib.Core.List.{List, [], _∷_}
+use Prim.Native.Nat.{ℕ, _+_, _≤_, _<_}
+use lib.IntN.{ℤ}
+use lib.Ieee.{Float}
+use lib.ListN.{length, getD}
+use Rattle.road.specs.Ceilings.{countCeiling}
+use Rattle.road.specs.Table.{Row, refused}
+use Rattle.road.specs.declared.Road.{Road}
+use Rattle.road.specs.declared.refusal.Refusal.{Refusal}
+use Rattle.flux.specs.Face.{letterD}
+use Rattle.scheme.specs.declared.many_steps.Totals.{Totals}
+use Rattle.scheme.specs.declared.settling.Settled.{Settled}
+use Rattle.forecast.specs.declared.forecasting.ForecastAnswer.{ForecastAnswer}
+use Rattle.forecast.specs.declared.forecasting.ForecastAnswer.the-variants as F
+use Rattle.forecast.specs.declared.settling.SettleAnswer.{SettleAnswer}
+use Rattle.forecast.specs.declared.settling.SettleAnswer.the-variants as S
+use Rattle.forecast.specs.Forecast as Forecast
+use Rattle.forecast.specs.Forecast.{forecastRows, Forecasts}
+use Rattle.forecast.specs.Settle as Settle
+use Rattle.forecast.specs.Settle.{settleRows, SettleChecked, Settles}
+use Rattle.modes.specs.declared.reading.ReadAnswer.the-variants as R
+use Rattle.modes.specs.declared.reading.StateReading.{StateReading}
+use Rattle.modes.specs.declared.fitting.FitResult.{FitResult}
+use Rattle.modes.specs.declared.fitting.FitAnswer.{FitAnswer}
+use Rattle.modes.specs.declared.fitting.FitAnswer.the-variants as T
+use Rattle.modes.specs.declared.prediction.PredictAnswer.{PredictAnswer}
+use Rattle.modes.specs.declared.prediction.PredictAnswer.the-variants as P
+use Rattle.modes.specs.declared.candidates.CandidateResult.{CandidateResult}
+use Rattle.modes.specs.declared.candidates.CandidateAnswer.{CandidateAnswer}
+use Rattle.modes.specs.declared.candidates.CandidateAnswer.the-variants as C
+use Rattle.modes.specs.declared.counting.WordCount.{WordCount}
+use Rattle.modes.specs.declared.counting.CountAnswer.{CountAnswer}
+use Rattle.modes.specs.declared.counting.CountAnswer.the-variants as N
+use Rattle.modes.specs.Judging.{readRows, fitRows, predictRows}
+use Rattle.modes.specs.Places.{offendsAt}
+use Rattle.modes.specs.Reading.{readNumber, readPlace, ReadChecked, Reads}
+use Rattle.modes.specs.Fit as Fit
+use Rattle.modes.specs.Fit.{FitChecked, Fits}
+use Rattle.modes.specs.Prediction.{predictNumber, predictPlace, PredictChecked, Predicts}
+use Rattle.modes.specs.Candidate as Candidate
+use Rattle.modes.specs.Candidate.{badEstimate, candidateRows, CandidateChecked, Candidates}
+use Rattle.modes.specs.Count as Count
+use Rattle.modes.specs.Count.{countRows, CountsWords}
+use Rattle.site.specs.declared.stations.StationReading.{StationReading}
+use Rattle.site.specs.declared.stations.Estimate.{Estimate}
+use Rattle.site.specs.declared.stations.StationAnswer.{StationAnswer}
+use Rattle.site.specs.declared.stations.StationAnswer.the-variants as E
+use Rattle.site.specs.Station as Station
+use Rattle.site.specs.Station.{stationRows, StationChecked, Stations}
+use Rattle.welgadou.specs.Parts.{flagOf}
+use Rattle.welgadou.specs.Level1.{Forecasted, SettledRun}
+use Rattle.welgadou.specs.Level2.{StateRead, WordFitted, RowsPredicted, CandidatePredicted, WordsCounted}
+use Rattle.welgadou.specs.Level3.{StationEstimated}
+
+-- a list's first density above j stands at k
+abbrev pub FirstOver : ℕ → List ℕ → ℕ → Type 0
+FirstOver j xs k = (j < getD xs k 0) × ((i : ℕ) → i < k → getD xs i 0 ≤ j)
+
+-- the places of 9, "lowest such cell", and of 10 and 11, "first such t, from 0"
+abbrev pub ValuePlaces : Road → List ℕ → List ℕ → List ℕ → Refusal → Type 0
+ValuePlaces r cells ups downs f =
+    (f .number ≡ 9 → (k : ℕ) × (f .place ≡ k + 1) × FirstOver (r .jam) cells k)
+    × (f .number ≡ 10 → FirstOver (r .jam) ups (f .place))
+    × (f .number ≡ 11 → FirstOver (r .jam) downs (f .place))
+
+-- the place of 12: "n+1; else lowest face (of a pair, the second)"
+abbrev pub WordPlace : ℕ → List ℕ → Refusal → Type 0
+WordPlace n word f =
+    f .number ≡ 12
+    → ((length word ≡ n + 1 → ⊥) → f .place ≡ n + 1)
+    × (length word ≡ n + 1
+    → (f .place < n + 1) × (offendsAt letterD word (f .place) ≡ true) × ((i : ℕ) → i < f .place → offendsAt letterD word i ≡ false))
+
+-- the places of a call with one end pair, and with a word besides
+abbrev pub PairPlaces : Road → List ℕ → ℕ → ℕ → Refusal → Type 0
+PairPlaces r cells up down f = ValuePlaces r cells (up ∷ []) (down ∷ []) f
+
+abbrev pub PairWordPlaces : Road → List ℕ → ℕ → ℕ → List ℕ → Refusal → Type 0
+PairWordPlaces r cells up down word f = PairPlaces r cells up down f × WordPlace (length cells) word f
+
+-- the place of 14: "1, 2 or 3, lowest first"
+abbrev pub EstimatePlace : Road → Float → Float → Float → Refusal → Type 0
+EstimatePlace r left own right f =
+    f .number ≡ 14
+    → (1 ≤ f .place)
+    × (f .place ≤ 3)
+    × (f .place ≡ 1 → badEstimate (r .jam) left ≡ true)
+    × (f .place ≡ 2 → (badEstimate (r .jam) left ≡ false) × (badEstimate (r .jam) own ≡ true))
+    × (f .place ≡ 3 → (badEstimate (r .jam) left ≡ false) × (badEstimate (r .jam) own ≡ false) × (badEstimate (r .jam) right ≡ true))
+
+-- a call whose every row reports place 0
+abbrev pub NoPlace : Refusal → Type 0
+NoPlace f = f .place ≡ 0
+
+-- what a call did with its input: its rows of the refusal table, what an input is that no row refuses, what its places mean, the refusal that came
+-- back (number 0 for none), that every output holds its former contents, and that it answered as an accepted call does (Done; for C a flag is 0 or 1)
+pub record Outcome : Type 1 where
+  pub rows : List Row
+  pub Checked : Type 0
+  pub Placed : Refusal → Type 0
+  pub refusal : Refusal
+  pub Kept : Type 0
+  pub Made : Type 0
+
+-- the public calls
+pub data Called : Outcome → Type 1 where
+  forecast : {r : Road} {cells ups downs : List ℕ} {t : ℕ} {out next : List ℕ} {a : ForecastAnswer}
+      → Forecasts r cells ups downs t out next a
+      → Called (record {
+        rows = forecastRows r cells ups downs t (length out);
+        Checked = Forecast.Checked r cells ups downs t (length out);
+        Placed = ValuePlaces r cells ups downs;
+        refusal = refused (Forecast.meaning a .number) (Forecast.meaning a .place);
+        Kept = next ≡ out;
+        Made = (d : Totals) × (a ≡ F.Done d);
+      })
+  settle : {r : Road} {cells : List ℕ} {up down t : ℕ} {out next : List ℕ} {a : SettleAnswer}
+      → Settles r cells up down t out next a
+      → Called (record {
+        rows = settleRows r cells up down t (length out);
+        Checked = SettleChecked r cells up down t (length out);
+        Placed = PairPlaces r cells up down;
+        refusal = refused (Settle.meaning a .number) (Settle.meaning a .place);
+        Kept = next ≡ out;
+        Made = (s : Settled) × (a ≡ S.Done s);
+      })
+  read : {r : Road} {cells : List ℕ} {up down : ℕ} {letters next-letters modes next-modes : List ℕ} {a : StateReading}
+      → Reads r cells up down letters next-letters modes next-modes a
+      → Called (record {
+        rows = readRows r cells up down (length letters) (length modes);
+        Checked = ReadChecked r cells up down (length letters) (length modes);
+        Placed = PairPlaces r cells up down;
+        refusal = refused (readNumber (a .answer)) (readPlace (a .answer));
+        Kept = (next-letters ≡ letters) × (next-modes ≡ modes);
+        Made = a .answer ≡ R.Done;
+      })
+  fit : {r : Road} {cells : List ℕ} {up down : ℕ} {word : List ℕ} {a : FitAnswer}
+      → Fits r cells up down word a
+      → Called (record {
+        rows = fitRows r cells up down word;
+        Checked = FitChecked r cells up down word;
+        Placed = PairWordPlaces r cells up down word;
+        refusal = refused (Fit.meaning a .number) (Fit.meaning a .place);
+        Kept = Unit {0};
+        Made = (f : FitResult) × (a ≡ T.Done f);
+      })
+  predict : {r : Road} {cells : List ℕ} {up down : ℕ} {word : List ℕ} {out next : List ℤ} {a : PredictAnswer}
+      → Predicts r cells up down word out next a
+      → Called (record {
+        rows = predictRows r cells up down word (length out);
+        Checked = PredictChecked r cells up down word (length out);
+        Placed = PairWordPlaces r cells up down word;
+        refusal = refused (predictNumber a) (predictPlace a);
+        Kept = next ≡ out;
+        Made = a ≡ P.Done;
+      })
+  candidate : {r : Road} {mode : ℕ} {left own right : Float} {a : CandidateAnswer}
+      → Candidates r mode left own right a
+      → Called (record {
+        rows = candidateRows r mode left own right;
+        Checked = CandidateChecked r mode left own right;
+        Placed = EstimatePlace r left own right;
+        refusal = refused (Candidate.meaning a .number) (Candidate.meaning a .place);
+        Kept = Unit {0};
+        Made = (p : CandidateResult) × (a ≡ C.Done p);
+      })
+  count : {n : ℕ} {a : CountAnswer}
+      → CountsWords n a
+      → Called (record {
+        rows = countRows n;
+        Checked = n ≤ countCeiling;
+        Placed = NoPlace;
+        refusal = refused (Count.meaning a .number) (Count.meaning a .place);
+        Kept = Unit {0};
+        Made = (c : WordCount) × (a ≡ N.Done c);
+      })
+  station : {r : Road} {x : StationReading} {a : StationAnswer}
+      → Stations r x a
+      → Called (record {
+        rows = stationRows r x;
+        Checked = StationChecked r x;
+        Placed = NoPlace;
+        refusal = refused (Station.meaning a .number) (Station.meaning a .place);
+        Kept = Unit {0};
+        Made = (e : Estimate) × (a ≡ E.Done e);
+      })
+  welgadou-forecast : {r : Road} {cells ups downs : List ℕ} {t : ℕ} {out next : List ℕ} {entered entered-next left left-next place number : ℕ}
+      → Forecasted r cells ups downs t out next entered entered-next left left-next place number
+      → Called (record {
+        rows = forecastRows r cells ups downs t (length out);
+        Checked = Forecast.Checked r cells ups downs t (length out);
+        Placed = ValuePlaces r cells ups downs;
+        refusal = refused number place;
+        Kept = (next ≡ out) × (entered-next ≡ entered) × (left-next ≡ left);
+        Made = Unit {0};
+      })
+  welgadou-settle : {r : Road} {cells : List ℕ} {up down t : ℕ} {out next : List ℕ} {settled settled-next steps steps-next place number : ℕ}
+      → SettledRun r cells up down t out next settled settled-next steps steps-next place number
+      → Called (record {
+        rows = settleRows r cells up down t (length out);
+        Checked = SettleChecked r cells up down t (length out);
+        Placed = PairPlaces r cells up down;
+        refusal = refused number place;
+        Kept = (next ≡ out) × (settled-next ≡ settled) × (steps-next ≡ steps);
+        Made = (b : Bool) × (settled-next ≡ flagOf b);
+      })
+  welgadou-read : {r : Road} {cells : List ℕ} {up down : ℕ} {letters letters-next modes modes-next counts counts-next : List ℕ} {queued queued-next place number : ℕ}
+      → StateRead r cells up down letters letters-next modes modes-next counts counts-next queued queued-next place number
+      → Called (record {
+        rows = readRows r cells up down (length letters) (length modes);
+        Checked = ReadChecked r cells up down (length letters) (length modes);
+        Placed = PairPlaces r cells up down;
+        refusal = refused number place;
+        Kept = (letters-next ≡ letters) × (modes-next ≡ modes) × (counts-next ≡ counts) × (queued-next ≡ queued);
+        Made = Unit {0};
+      })
+  welgadou-fit : {r : Road} {cells : List ℕ} {up down : ℕ} {word : List ℕ} {holds holds-next face face-next place number : ℕ}
+      → WordFitted r cells up down word holds holds-next face face-next place number
+      → Called (record {
+        rows = fitRows r cells up down word;
+        Checked = FitChecked r cells up down word;
+        Placed = PairWordPlaces r cells up down word;
+        refusal = refused number place;
+        Kept = (holds-next ≡ holds) × (face-next ≡ face);
+        Made = (b : Bool) × (holds-next ≡ flagOf b);
+      })
+  welgadou-rows : {r : Road} {cells : List ℕ} {up down : ℕ} {word : List ℕ} {out next : List ℤ} {place number : ℕ}
+      → RowsPredicted r cells up down word out next place number
+      → Called (record {
+        rows = predictRows r cells up down word (length out);
+        Checked = PredictChecked r cells up down word (length out);
+        Placed = PairWordPlaces r cells up down word;
+        refusal = refused number place;
+        Kept = next ≡ out;
+        Made = Unit {0};
+      })
+  welgadou-candidate : {r : Road} {mode : ℕ} {left own right numerator numerator-next : Float} {place number : ℕ}
+      → CandidatePredicted r mode left own right numerator numerator-next place number
+      → Called (record {
+        rows = candidateRows r mode left own right;
+        Checked = CandidateChecked r mode left own right;
+        Placed = EstimatePlace r left own right;
+        refusal = refused number place;
+        Kept = numerator-next ≡ numerator;
+        Made = Unit {0};
+      })
+  welgadou-count : {n words words-next place number : ℕ}
+      → WordsCounted n words words-next place number
+      → Called (record {
+        rows = countRows n;
+        Checked = n ≤ countCeiling;
+        Placed = NoPlace;
+        refusal = refused number place;
+        Kept = words-next ≡ words;
+        Made = Unit {0};
+      })
+  -- the three kinds of station share one contract
+  welgadou-station : {r : Road} {x : StationReading} {estimate estimate-next : Float} {place number : ℕ}
+      → StationEstimated r x estimate estimate-next place number
+      → Called (record {
+        rows = stationRows r x;
+        Checked = StationChecked r x;
+        Placed = NoPlace;
+        refusal = refused number place;
+        Kept = estimate-next ≡ estimate;
+        Made = Unit {0};
+      })
+
+-- what an accepted call was given and what it made, of either layer: Done, or number 0
+pub record AcceptedForecast : Type 0 where
+  pub road : Road
+  pub cells : List ℕ
+  pub ups : List ℕ
+  pub downs : List ℕ
+  pub horizon : ℕ
+  pub next : List ℕ
+  pub entered : ℕ
+  pub left : ℕ
+
+pub data ForecastMade : AcceptedForecast → Type 0 where
+  forecast : {r : Road} {cells ups downs : List ℕ} {t : ℕ} {out next : List ℕ} {a : ForecastAnswer} {d : Totals}
+      → Forecasts r cells ups downs t out next a → a ≡ F.Done d
+      → ForecastMade (record { road = r; cells = cells; ups = ups; downs = downs; horizon = t; next = next; entered = d .entered; left = d .left })
+  welgadou-forecast : {r : Road} {cells ups downs : List ℕ} {t : ℕ} {out next : List ℕ} {entered entered-next left left-next place number : ℕ}
+      → Forecasted r cells ups downs t out next entered entered-next left left-next place number → number ≡ 0
+      → ForecastMade (record { road = r; cells = cells; ups = ups; downs = downs; horizon = t; next = next; entered = entered-next; left = left-next })
+
+pub record AcceptedSettling : Type 0 where
+  pub road : Road
+  pub cells : List ℕ
+  pub up : ℕ
+  pub down : ℕ
+  pub horizon : ℕ
+  pub next : List ℕ
+  pub settled : Bool
+  pub steps : ℕ
+
+pub data SettlingMade : AcceptedSettling → Type 0 where
+  settle : {r : Road} {cells : List ℕ} {up down t : ℕ} {out next : List ℕ} {a : SettleAnswer} {s : Settled}
+      → Settles r cells up down t out next a → a ≡ S.Done s
+      → SettlingMade (record { road = r; cells = cells; up = up; down = down; horizon = t; next = next; settled = s .settled; steps = s .steps })
+  welgadou-settle : {r : Road} {cells : List ℕ} {up down t : ℕ} {out next : List ℕ} {settled settled-next steps steps-next place number : ℕ} {b : Bool}
+      → SettledRun r cells up down t out next settled settled-next steps steps-next place number → number ≡ 0 → settled-next ≡ flagOf b
+      → SettlingMade (record { road = r; cells = cells; up = up; down = down; horizon = t; next = next; settled = b; steps = steps-next })
+
+pub record AcceptedReading : Type 0 where
+  pub road : Road
+  pub cells : List ℕ
+  pub up : ℕ
+  pub down : ℕ
+  pub letters : List ℕ
+  pub modes : List ℕ
+  pub counts : List ℕ
+  pub queued : ℕ
+
+pub data ReadingMade : AcceptedReading → Type 0 where
+  read : {r : Road} {cells : List ℕ} {up down : ℕ} {letters next-letters modes next-modes : List ℕ} {a : StateReading}
+      → Reads r cells up down letters next-letters modes next-modes a → a .answer ≡ R.Done
+      → ReadingMade (record {
+        road = r;
+        cells = cells;
+        up = up;
+        down = down;
+        letters = next-letters;
+        modes = next-modes;
+        counts = a .counts .modes;
+        queued = a .counts .queued;
+      })
+  welgadou-read : {r : Road} {cells : List ℕ} {up down : ℕ} {letters letters-next modes modes-next counts counts-next : List ℕ} {queued queued-next place number : ℕ}
+      → StateRead r cells up down letters letters-next modes modes-next counts counts-next queued queued-next place number → number ≡ 0
+      → ReadingMade (record {
+        road = r;
+        cells = cells;
+        up = up;
+        down = down;
+        letters = letters-next;
+        modes = modes-next;
+        counts = counts-next;
+        queued = queued-next;
+      })
+
+pub record AcceptedFit : Type 0 where
+  pub road : Road
+  pub cells : List ℕ
+  pub up : ℕ
+  pub down : ℕ
+  pub word : List ℕ
+  pub holds : Bool
+  pub face : ℕ
+
+pub data FitMade : AcceptedFit → Type 0 where
+  fit : {r : Road} {cells : List ℕ} {up down : ℕ} {word : List ℕ} {a : FitAnswer} {f : FitResult}
+      → Fits r cells up down word a → a ≡ T.Done f
+      → FitMade (record { road = r; cells = cells; up = up; down = down; word = word; holds = f .holds; face = f .face })
+  welgadou-fit : {r : Road} {cells : List ℕ} {up down : ℕ} {word : List ℕ} {holds holds-next face face-next place number : ℕ} {b : Bool}
+      → WordFitted r cells up down word holds holds-next face face-next place number → number ≡ 0 → holds-next ≡ flagOf b
+      → FitMade (record { road = r; cells = cells; up = up; down = down; word = word; holds = b; face = face-next })
+
+pub record AcceptedRows : Type 0 where
+  pub road : Road
+  pub cells : List ℕ
+  pub up : ℕ
+  pub down : ℕ
+  pub word : List ℕ
+  pub rows : List ℤ
+
+pub data RowsMade : AcceptedRows → Type 0 where
+  predict : {r : Road} {cells : List ℕ} {up down : ℕ} {word : List ℕ} {out next : List ℤ} {a : PredictAnswer}
+      → Predicts r cells up down word out next a → a ≡ P.Done
+      → RowsMade (record { road = r; cells = cells; up = up; down = down; word = word; rows = next })
+  welgadou-rows : {r : Road} {cells : List ℕ} {up down : ℕ} {word : List ℕ} {out next : List ℤ} {place number : ℕ}
+      → RowsPredicted r cells up down word out next place number → number ≡ 0
+      → RowsMade (record { road = r; cells = cells; up = up; down = down; word = word; rows = next })
+
+pub record AcceptedCandidate : Type 0 where
+  pub road : Road
+  pub mode : ℕ
+  pub left : Float
+  pub own : Float
+  pub right : Float
+  pub numerator : Float
+
+pub data CandidateMade : AcceptedCandidate → Type 0 where
+  candidate : {r : Road} {mode : ℕ} {left own right : Float} {a : CandidateAnswer} {p : CandidateResult}
+      → Candidates r mode left own right a → a ≡ C.Done p
+      → CandidateMade (record { road = r; mode = mode; left = left; own = own; right = right; numerator = p .numerator })
+  welgadou-candidate : {r : Road} {mode : ℕ} {left own right numerator numerator-next : Float} {place number : ℕ}
+      → CandidatePredicted r mode left own right numerator numerator-next place number → number ≡ 0
+      → CandidateMade (record { road = r; mode = mode; left = left; own = own; right = right; numerator = numerator-next })
+
+pub record AcceptedCount : Type 0 where
+  pub cells : ℕ
+  pub words : ℕ
+
+pub data CountMade : AcceptedCount → Type 0 where
+  count : {n : ℕ} {a : CountAnswer} {c : WordCount} → CountsWords n a → a ≡ N.Done c → CountMade (record { cells = n; words = c .words })
+  welgadou-count : {n words words-next place number : ℕ}
+      → WordsCounted n words words-next place number → number ≡ 0 → CountMade (record { cells = n; words = words-next })
+
+pub record AcceptedStation : Type 0 where
+  pub road : Road
+  pub reading : StationReading
+  pub estimate : Float
+
+pub data StationMade : AcceptedStation → Type 0 where
+  station : {r : Road} {x : StationReading} {a : StationAnswer} {e : Estimate}
+      → Stations r x a → a ≡ E.Done e → StationMade (record { road = r; reading = x; estimate = e .density })
+  welgadou-station : {r : Road} {x : StationReading} {estimate estimate-next : Float} {place number : ℕ}
+      → StationEstimated r x estimate estimate-next place number → number ≡ 0
+      → StationMade (record { road = r; reading = x; estimate = estimate-next })

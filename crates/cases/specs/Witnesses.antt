@@ -1,0 +1,66 @@
+-- No hypothesis record of the public contracts is empty: an input that meets each, and a chain of calls that meets that of `for-ever`. `Refusals` departs from these inputs.
+use mathlib.Core.List.{List, [], _∷_}
+use Prim.Native.Nat.{ℕ, _≤_}
+use lib.ListN.{replicate}
+use Rattle.road.specs.Ceilings.{cellsCeiling, horizonCeiling, countCeiling}
+use Rattle.road.specs.Judgement.{Accepted}
+use Rattle.road.specs.declared.Road.{Road}
+use Rattle.flux.specs.Face.{letterW, letterL, letterD}
+use Rattle.forecast.specs.Forecast.{Checked}
+use Rattle.forecast.specs.Settle.{SettleChecked}
+use Rattle.forecast.specs.Chain.{Call, forecast, settle, AllPass}
+use Rattle.modes.specs.Reading.{ReadChecked}
+use Rattle.modes.specs.Fit.{FitChecked}
+use Rattle.modes.specs.Prediction.{PredictChecked}
+use Rattle.modes.specs.Candidate.{CandidateChecked}
+use Rattle.site.specs.Station.{whole, StationChecked}
+use Rattle.site.specs.declared.stations.StationReading.the-variants.{Density, FlowAndSpeed, Speed}
+use Rattle.cases.specs.Starred.{roadA, three}
+use Rattle.cases.specs.Requests.{fifth, four-fifths}
+
+-- a road from its five numbers: D, p, q, J, C
+abbrev pub road : ℕ → ℕ → ℕ → ℕ → ℕ → Road
+road d p q j c = record { divisor = d; free = p; wave = q; jam = j; critical = c }
+
+-- the starred ends 100 and 0, for three steps
+abbrev pub ups : List ℕ
+ups = 100 ∷ 100 ∷ 100 ∷ []
+
+abbrev pub downs : List ℕ
+downs = 0 ∷ 0 ∷ 0 ∷ []
+
+-- the word of the starred three cells: D L W L
+abbrev pub ownWord : List ℕ
+ownWord = letterD ∷ letterL ∷ letterW ∷ letterL ∷ []
+
+-- calls of a chain, each with an output that held the starred cells
+abbrev pub threeSteps : Call
+threeSteps = forecast (record { horizon = 3; ups = ups; downs = downs; out = three })
+
+abbrev pub upToNine : Call
+upToNine = settle (record { horizon = 9; up = 100; down = 0; out = three })
+
+pub record Witnessed : Type 0 where
+  -- a road: road A, and the smallest, "J 2, C 1, D p q all 1"
+  pub accepted : Accepted roadA
+  pub accepted-smallest : Accepted (road 1 1 1 2 1)
+  -- forecast: cells, upstream and downstream ends, T, length of the output; and the longest on the most cells
+  pub forecast : Checked roadA three ups downs 3 3
+  pub forecast-longest : Checked roadA (replicate cellsCeiling 200) (replicate horizonCeiling 100) (replicate horizonCeiling 0) horizonCeiling cellsCeiling
+  -- settling run: cells, the end pair, T, length of the output
+  pub settle : SettleChecked roadA three 100 0 9 3
+  -- a chain of three calls, for ever: a forecast of three steps, a settling run of up to nine, and the forecast again
+  pub chain : AllPass roadA 3 (threeSteps ∷ upToNine ∷ threeSteps ∷ [])
+  -- reading: cells, the end pair, lengths of the letters and of the modes
+  pub read : ReadChecked roadA three 100 0 4 3
+  -- fit test and row prediction: cells, the end pair, the word, and the second's length of the output
+  pub fit : FitChecked roadA three 100 0 ownWord
+  pub predict : PredictChecked roadA three 100 0 ownWord 3
+  -- candidate prediction: mode, left, own and right
+  pub candidate : CandidateChecked roadA 6 (whole 100) (whole 300) (whole 150)
+  -- word count: the ceiling itself
+  pub count : countCeiling ≤ countCeiling
+  -- station: a reading of each kind
+  pub station-density : StationChecked roadA (Density (whole 1000))
+  pub station-flow-and-speed : StationChecked roadA (FlowAndSpeed (whole 80) four-fifths)
+  pub station-speed : StationChecked roadA (Speed fifth)

@@ -1,0 +1,81 @@
+-- A rounded run is one that moves each face's whole units, and an exact run one that moves each face's flow.
+use mathlib.Core.Path.{_≡_, _∙_, refl, sym, ap}
+use mathlib.Core.List.{List, [], _∷_}
+use Prim.Native.Nat.{ℕ, suc, _*_, _≤_, zero-le}
+use native.Mathlib.Nat.{le-refl, suc-inj}
+use native.Mathlib.Numerals.{add-one}
+use native.Mathlib.Omega.{arith}
+use lib.ListN.{length, getD, replicate, length-replicate}
+use Rattle.road.specs.Judgement.{Accepted}
+use Rattle.road.specs.declared.Road.{Road}
+use Rattle.scheme.specs.Advance.{entering, leaving, faceFlows}
+use Rattle.scheme.specs.Rounded.{moved, roundStep, roundRun, entered, left}
+use Rattle.scheme.specs.Settling.{after}
+use Rattle.scheme.specs.Exact.{exactFlow, exactStep, exactRun}
+use Rattle.scheme.specs.ByFaces.{unitsOver, StepByFaces, RunByFaces, none, step, flowOver, ExactStepByFaces, ExactRunByFaces, exact-none, exact-step}
+use Rattle.scheme.proofs.Faces.{flow-at, enters-first, leaves-last}
+use Rattle.scheme.proofs.Runs.{roundStep-length, exactStep-length}
+use Rattle.scheme.proofs.Promises.{round-cell, exact-cell, after-run}
+
+module _ (r : Road) where
+  over-face : (u d : ℕ) (xs : List ℕ) (k : ℕ) → k ≤ length xs → getD (faceFlows (moved r) u d xs) k 0 ≡ unitsOver r u d xs k
+  unfolding unitsOver moved
+  over-face u d xs k h = rw (add-one k) (flow-at (moved r) u d xs k h)
+
+  enters : (u d : ℕ) (xs : List ℕ) → entering (moved r) u d xs ≡ unitsOver r u d xs 0
+  enters u d xs = enters-first (moved r) u d xs ∙ over-face u d xs 0 zero-le
+
+  leaves : (u d : ℕ) (xs : List ℕ) → leaving (moved r) u d xs ≡ unitsOver r u d xs (length xs)
+  leaves u d xs = leaves-last (moved r) u d xs ∙ over-face u d xs (length xs) (le-refl (length xs))
+
+  module _ (ok : Accepted r) where
+    step-by-faces : (u d : ℕ) (xs : List ℕ) → StepByFaces r u d xs (roundStep r u d xs)
+    step-by-faces u d xs = record {
+      long = roundStep-length r u d xs;
+      cell = λ k h.
+          let out = over-face u d xs (suc k) h in
+          let in-flow = over-face u d xs k (omega arith) in
+          let one = round-cell r ok u d xs k h in
+          rw add-one (omega arith);
+    }
+
+    pub run-by-faces : (ups downs xs : List ℕ) → length ups ≡ length downs
+        → RunByFaces r ups downs xs (roundRun r ups downs xs) (entered r ups downs xs) (left r ups downs xs)
+    unfolding roundRun entered left
+    run-by-faces [] [] xs e = none
+    run-by-faces [] (d ∷ downs) xs e = absurd (omega arith)
+    run-by-faces (u ∷ ups) [] xs e = absurd (omega arith)
+    run-by-faces (u ∷ ups) (d ∷ downs) xs e =
+        rw (enters u d xs, leaves u d xs) (step (step-by-faces u d xs) (run-by-faces ups downs (roundStep r u d xs) (suc-inj e)))
+
+    -- k steps of one end pair likewise
+    pub after-by-faces : (up down k : ℕ) (xs : List ℕ)
+        → RunByFaces r (replicate k up) (replicate k down) xs (after r up down k xs)
+        (entered r (replicate k up) (replicate k down) xs) (left r (replicate k up) (replicate k down) xs)
+    after-by-faces up down k xs =
+        rw (after-run r up down k xs)
+        (run-by-faces (replicate k up) (replicate k down) xs (length-replicate k up ∙ sym (length-replicate k down)))
+
+  -- the exact scheme likewise
+  over-face-exactly : (z u d : ℕ) (xs : List ℕ) (k : ℕ) → k ≤ length xs → getD (faceFlows (exactFlow r z) (z * u) (z * d) xs) k 0 ≡ flowOver r z u d xs k
+  unfolding flowOver exactFlow
+  over-face-exactly z u d xs k h = rw (add-one k) (flow-at (exactFlow r z) (z * u) (z * d) xs k h)
+
+  module _ (ok : Accepted r) where
+    pub exact-step-by-faces : (z u d : ℕ) (xs : List ℕ) → ExactStepByFaces r z u d xs (exactStep r z u d xs)
+    exact-step-by-faces z u d xs = record {
+      long = exactStep-length r z u d xs;
+      cell = λ k h.
+          let out = over-face-exactly z u d xs (suc k) h in
+          let in-flow = over-face-exactly z u d xs k (omega arith) in
+          let one = exact-cell r ok z u d xs k h in
+          rw add-one (omega arith);
+    }
+
+    pub exact-run-by-faces : (z : ℕ) (ups downs xs : List ℕ) → length ups ≡ length downs → ExactRunByFaces r z ups downs xs (exactRun r z ups downs xs)
+    unfolding exactRun
+    exact-run-by-faces z [] [] xs e = exact-none
+    exact-run-by-faces z [] (d ∷ downs) xs e = absurd (omega arith)
+    exact-run-by-faces z (u ∷ ups) [] xs e = absurd (omega arith)
+    exact-run-by-faces z (u ∷ ups) (d ∷ downs) xs e =
+        exact-step (exact-step-by-faces z u d xs) (exact-run-by-faces (r .divisor * z) ups downs (exactStep r z u d xs) (suc-inj e))
