@@ -1,19 +1,17 @@
--- The commission is met: each sentence from the public contracts alone.
+-- The commission is met: each sentence from the public contracts alone, the printed table of the modes by computation.
 use mathlib.Core.Path.{_≡_, _∙_, refl, sym, ap}
 use mathlib.Core.Bool.{Bool, true, false}
-use mathlib.Core.List.{List}
+use mathlib.Core.List.{List, map}
 use Prim.Native.Nat.{ℕ}
 use native.Mathlib.Omega.{arith}
-use lib.Dec.{eqb}
+use lib.Dec.{T, eqb}
 use lib.IntN.{ℤ, pos}
 use lib.Ieee.{Float, fin, binary64, ofInt}
-use lib.ListN.{length}
 use borrow.Author.Tests.{eq-eqb, ne-eqb}
 use Rattle.road.specs.Choice.{pick}
-use Rattle.road.specs.Table.{Row, judge, Judged}
+use Rattle.road.specs.Table.{Row, judge, rising, Judged}
 use Rattle.road.specs.declared.Road.{Road}
 use Rattle.road.specs.declared.refusal.Refusal.{Refusal}
-use Rattle.checks.specs.Values.{FirstAbove}
 use Rattle.checks.specs.Places.{Placed}
 use Rattle.scheme.specs.Rounded.{entered, left}
 use Rattle.scheme.specs.ByFaces.{RunByFaces}
@@ -75,11 +73,13 @@ record Told (o : Outcome) : Type 1 where
   judged : Judged (o .rows) (o .Checked) (o .Placed) (o .refusal)
   kept : (o .refusal .number ≡ 0 → ⊥) → o .Kept
   table : o .refusal ≡ judge (o .rows)
+  checks : map (λ r. r .number) (o .rows) ≡ o .checks
+  rises : T (rising 0 (o .rows))
   made : o .refusal .number ≡ 0 → o .Made
 
 told-as : {rows : List Row} {Checked : Type 0} {From To : Refusal → Type 0} {f : Refusal}
     → ((g : Refusal) → From g → To g) → Judged rows Checked From f → Judged rows Checked To f
-told-as {f = f} says j = record { lowest = j .lowest; placed = says f (j .placed); accepted = j .accepted; no-other = j .no-other }
+told-as {f = f} says j = record { first = j .first; lowest = j .lowest; placed = says f (j .placed); accepted = j .accepted; no-other = j .no-other }
 
 told : (o : Outcome) → Called o → Told o
 unfolding forecastRefusal forecastAnswer forecastCells forecastMeaning settleRefusal settleAnswer settleOutput settleMeaning readRefusal readAnswer readLetters readModes fitRefusal fitAnswer fitMeaning predictRefusal predictAnswer predicted candidateRefusal candidateAnswer candidateMeaning countRefusal countAnswer countMeaning stationRefusal stationAnswer stationMeaning
@@ -87,35 +87,45 @@ told _ (forecast c) = record {
   judged = told-as value-places (c .judged);
   kept = λ n. former-of _ _ (λ z. n (ap (λ (m : Forecast.Meaning). m .number) (c .means) ∙ z)) (c .output);
   table = λ i. record { number = c .means i .number; place = c .means i .place };
+  checks = refl;
+  rises = tt;
   made = λ z. (_, value-of _ _ (sym (ap (λ (m : Forecast.Meaning). m .number) (c .means)) ∙ z) (c .answer));
 }
 told _ (settle c) = record {
   judged = told-as value-places (c .judged);
   kept = λ n. former-of _ _ (λ z. n (ap (λ (m : Settle.Meaning). m .number) (c .means) ∙ z)) (c .output);
   table = λ i. record { number = c .means i .number; place = c .means i .place };
+  checks = refl;
+  rises = tt;
   made = λ z. (_, value-of _ _ (sym (ap (λ (m : Settle.Meaning). m .number) (c .means)) ∙ z) (c .answer));
 }
 told _ (read c) = record {
   judged = told-as value-places (c .judged);
   kept = λ n. (former-of _ _ (λ z. n (c .number ∙ z)) (c .letters-written), former-of _ _ (λ z. n (c .number ∙ z)) (c .modes-written));
   table = λ i. record { number = c .number i; place = c .place i };
+  checks = refl;
+  rises = tt;
   made = λ z. ap (λ (x : StateReading). x .answer) (value-of _ _ (sym (c .number) ∙ z) (c .answer));
 }
-told _ (fit c) = record { judged = told-as word-places (c .judged); kept = λ n. tt; table = λ i. record { number = c .means i .number; place = c .means i .place }; made = λ z. (_, value-of _ _ (sym (ap (λ (m : Fit.Meaning). m .number) (c .means)) ∙ z) (c .answer)) }
-told _ (predict c) = record { judged = told-as word-places (c .judged); kept = λ n. former-of _ _ (λ z. n (c .number ∙ z)) (c .output); table = λ i. record { number = c .number i; place = c .place i }; made = λ z. value-of _ _ (sym (c .number) ∙ z) (c .answer) }
-told _ (candidate {r = r} c) = record { judged = told-as (estimate-place r _ _ _) (c .judged); kept = λ n. tt; table = λ i. record { number = c .means i .number; place = c .means i .place }; made = λ z. (_, value-of _ _ (sym (ap (λ (m : Candidate.Meaning). m .number) (c .means)) ∙ z) (c .answer)) }
-told _ (count c) = record { judged = c .judged; kept = λ n. tt; table = λ i. record { number = c .means i .number; place = c .means i .place }; made = λ z. (_, value-of _ _ (sym (ap (λ (m : Count.Meaning). m .number) (c .means)) ∙ z) (c .answer)) }
-told _ (station c) = record { judged = c .judged; kept = λ n. tt; table = λ i. record { number = c .means i .number; place = c .means i .place }; made = λ z. (_, value-of _ _ (sym (ap (λ (m : Station.Meaning). m .number) (c .means)) ∙ z) (c .answer)) }
+told _ (fit c) = record { judged = told-as word-places (c .judged); kept = λ n. tt; table = λ i. record { number = c .means i .number; place = c .means i .place }; checks = refl; rises = tt; made = λ z. (_, value-of _ _ (sym (ap (λ (m : Fit.Meaning). m .number) (c .means)) ∙ z) (c .answer)) }
+told _ (predict c) = record { judged = told-as word-places (c .judged); kept = λ n. former-of _ _ (λ z. n (c .number ∙ z)) (c .output); table = λ i. record { number = c .number i; place = c .place i }; checks = refl; rises = tt; made = λ z. value-of _ _ (sym (c .number) ∙ z) (c .answer) }
+told _ (candidate {r = r} c) = record { judged = told-as (estimate-place r _ _ _) (c .judged); kept = λ n. tt; table = λ i. record { number = c .means i .number; place = c .means i .place }; checks = refl; rises = tt; made = λ z. (_, value-of _ _ (sym (ap (λ (m : Candidate.Meaning). m .number) (c .means)) ∙ z) (c .answer)) }
+told _ (count c) = record { judged = c .judged; kept = λ n. tt; table = λ i. record { number = c .means i .number; place = c .means i .place }; checks = refl; rises = tt; made = λ z. (_, value-of _ _ (sym (ap (λ (m : Count.Meaning). m .number) (c .means)) ∙ z) (c .answer)) }
+told _ (station c) = record { judged = c .judged; kept = λ n. tt; table = λ i. record { number = c .means i .number; place = c .means i .place }; checks = refl; rises = tt; made = λ z. (_, value-of _ _ (sym (ap (λ (m : Station.Meaning). m .number) (c .means)) ∙ z) (c .answer)) }
 told _ (welgadou-forecast c) = record {
   judged = told-as value-places (c .judged);
   kept = λ n. (former-of _ _ (λ z. n (c .returned ∙ z)) (c .output), former-of _ _ n (c .entered-written), former-of _ _ n (c .left-written));
   table = λ i. record { number = c .returned i; place = c .placed i };
+  checks = refl;
+  rises = tt;
   made = λ z. tt;
 }
 told _ (welgadou-settle c) = record {
   judged = told-as value-places (c .judged);
   kept = λ n. (former-of _ _ (λ z. n (c .returned ∙ z)) (c .output), former-of _ _ n (c .settled-written), former-of _ _ n (c .steps-written));
   table = λ i. record { number = c .returned i; place = c .placed i };
+  checks = refl;
+  rises = tt;
   made = λ z. let (b, same, says) = c .settlement z in (b, same);
 }
 told _ (welgadou-read c) = record {
@@ -127,20 +137,23 @@ told _ (welgadou-read c) = record {
     former-of _ _ n (c .queued-written),
   );
   table = λ i. record { number = c .returned i; place = c .placed i };
+  checks = refl;
+  rises = tt;
   made = λ z. tt;
 }
-told _ (welgadou-fit c) = record { judged = told-as word-places (c .judged); kept = λ n. (former-of _ _ n (c .holds-written), former-of _ _ n (c .face-written)); table = λ i. record { number = c .returned i; place = c .placed i }; made = λ z. let (b, same, says) = c .state z in (b, same) }
-told _ (welgadou-rows c) = record { judged = told-as word-places (c .judged); kept = λ n. former-of _ _ (λ z. n (c .returned ∙ z)) (c .output); table = λ i. record { number = c .returned i; place = c .placed i }; made = λ z. tt }
-told _ (welgadou-candidate {r = r} c) = record { judged = told-as (estimate-place r _ _ _) (c .judged); kept = λ n. former-of _ _ n (c .numerator-written); table = λ i. record { number = c .returned i; place = c .placed i }; made = λ z. tt }
-told _ (welgadou-count c) = record { judged = c .judged; kept = λ n. former-of _ _ n (c .words-written); table = λ i. record { number = c .returned i; place = c .placed i }; made = λ z. tt }
-told _ (welgadou-station c) = record { judged = c .judged; kept = λ n. former-of _ _ n (c .estimate-written); table = λ i. record { number = c .returned i; place = c .placed i }; made = λ z. tt }
+told _ (welgadou-fit c) = record { judged = told-as word-places (c .judged); kept = λ n. (former-of _ _ n (c .holds-written), former-of _ _ n (c .face-written)); table = λ i. record { number = c .returned i; place = c .placed i }; checks = refl; rises = tt; made = λ z. let (b, same, says) = c .state z in (b, same) }
+told _ (welgadou-rows c) = record { judged = told-as word-places (c .judged); kept = λ n. former-of _ _ (λ z. n (c .returned ∙ z)) (c .output); table = λ i. record { number = c .returned i; place = c .placed i }; checks = refl; rises = tt; made = λ z. tt }
+told _ (welgadou-candidate {r = r} c) = record { judged = told-as (estimate-place r _ _ _) (c .judged); kept = λ n. former-of _ _ n (c .numerator-written); table = λ i. record { number = c .returned i; place = c .placed i }; checks = refl; rises = tt; made = λ z. tt }
+told _ (welgadou-count c) = record { judged = c .judged; kept = λ n. former-of _ _ n (c .words-written); table = λ i. record { number = c .returned i; place = c .placed i }; checks = refl; rises = tt; made = λ z. tt }
+told _ (welgadou-station c) = record { judged = c .judged; kept = λ n. former-of _ _ n (c .estimate-written); table = λ i. record { number = c .returned i; place = c .placed i }; checks = refl; rises = tt; made = λ z. tt }
 
 demand1 : Demand1
 demand1 = record {
   judges = λ o c. told o c .judged .accepted;
-  fitting = λ o c. told o c .judged .lowest .applies;
-  returned = λ o c. told o c .judged .lowest .returned;
-  first = λ o c. told o c .judged .lowest .lowest;
+  first = λ o c. told o c .judged .first .fits;
+  returned = λ o c. told o c .judged .first .found;
+  checks = λ o c. told o c .checks;
+  lowest = λ o c. told o c .judged .lowest (told o c .rises) .lowest;
   place = λ o c. told o c .judged .placed;
   table = λ o c. told o c .table;
   no-other = λ o c. told o c .judged .no-other;

@@ -98,10 +98,36 @@ EstimatePlace r left own right f =
 abbrev pub NoPlace : Refusal → Type 0
 NoPlace f = f .place ≡ 0
 
--- what a call did with its input: its rows of the refusal table, what an input is that no row refuses, what its places mean, the refusal that came
+-- "Calls and their checks" (document 01; document 02, E1): which numbers a call's table has, in their order
+abbrev pub forecastChecks : List ℕ
+forecastChecks = 1 ∷ 2 ∷ 3 ∷ 4 ∷ 5 ∷ 6 ∷ 7 ∷ 8 ∷ 9 ∷ 10 ∷ 11 ∷ []
+
+abbrev pub settleChecks : List ℕ
+settleChecks = 1 ∷ 2 ∷ 3 ∷ 4 ∷ 5 ∷ 6 ∷ 8 ∷ 9 ∷ 10 ∷ 11 ∷ []
+
+abbrev pub readChecks : List ℕ
+readChecks = 1 ∷ 2 ∷ 3 ∷ 4 ∷ 5 ∷ 8 ∷ 9 ∷ 10 ∷ 11 ∷ []
+
+abbrev pub fitChecks : List ℕ
+fitChecks = 1 ∷ 2 ∷ 3 ∷ 4 ∷ 5 ∷ 9 ∷ 10 ∷ 11 ∷ 12 ∷ []
+
+abbrev pub predictChecks : List ℕ
+predictChecks = 1 ∷ 2 ∷ 3 ∷ 4 ∷ 5 ∷ 8 ∷ 9 ∷ 10 ∷ 11 ∷ 12 ∷ []
+
+abbrev pub candidateChecks : List ℕ
+candidateChecks = 1 ∷ 2 ∷ 3 ∷ 4 ∷ 13 ∷ 14 ∷ []
+
+abbrev pub countChecks : List ℕ
+countChecks = 15 ∷ []
+
+abbrev pub stationChecks : List ℕ
+stationChecks = 1 ∷ 2 ∷ 3 ∷ 4 ∷ 16 ∷ 17 ∷ 18 ∷ []
+
+-- what a call did with its input: its rows of the refusal table and their numbers, what an input is that no row refuses, what its places mean, the refusal that came
 -- back (number 0 for none), that every output holds its former contents, and that it answered as an accepted call does (Done; for C a flag is 0 or 1)
 pub record Outcome : Type 1 where
   pub rows : List Row
+  pub checks : List ℕ
   pub Checked : Type 0
   pub Placed : Refusal → Type 0
   pub refusal : Refusal
@@ -114,6 +140,7 @@ pub data Called : Outcome → Type 1 where
       → Forecasts r cells ups downs t out next a
       → Called (record {
         rows = forecastRows r cells ups downs t (length out);
+        checks = forecastChecks;
         Checked = Forecast.Checked r cells ups downs t (length out);
         Placed = ValuePlaces r cells ups downs;
         refusal = refused (Forecast.meaning a .number) (Forecast.meaning a .place);
@@ -124,6 +151,7 @@ pub data Called : Outcome → Type 1 where
       → Settles r cells up down t out next a
       → Called (record {
         rows = settleRows r cells up down t (length out);
+        checks = settleChecks;
         Checked = SettleChecked r cells up down t (length out);
         Placed = PairPlaces r cells up down;
         refusal = refused (Settle.meaning a .number) (Settle.meaning a .place);
@@ -134,6 +162,7 @@ pub data Called : Outcome → Type 1 where
       → Reads r cells up down letters next-letters modes next-modes a
       → Called (record {
         rows = readRows r cells up down (length letters) (length modes);
+        checks = readChecks;
         Checked = ReadChecked r cells up down (length letters) (length modes);
         Placed = PairPlaces r cells up down;
         refusal = refused (readNumber (a .answer)) (readPlace (a .answer));
@@ -144,6 +173,7 @@ pub data Called : Outcome → Type 1 where
       → Fits r cells up down word a
       → Called (record {
         rows = fitRows r cells up down word;
+        checks = fitChecks;
         Checked = FitChecked r cells up down word;
         Placed = PairWordPlaces r cells up down word;
         refusal = refused (Fit.meaning a .number) (Fit.meaning a .place);
@@ -154,6 +184,7 @@ pub data Called : Outcome → Type 1 where
       → Predicts r cells up down word out next a
       → Called (record {
         rows = predictRows r cells up down word (length out);
+        checks = predictChecks;
         Checked = PredictChecked r cells up down word (length out);
         Placed = PairWordPlaces r cells up down word;
         refusal = refused (predictNumber a) (predictPlace a);
@@ -164,6 +195,7 @@ pub data Called : Outcome → Type 1 where
       → Candidates r mode left own right a
       → Called (record {
         rows = candidateRows r mode left own right;
+        checks = candidateChecks;
         Checked = CandidateChecked r mode left own right;
         Placed = EstimatePlace r left own right;
         refusal = refused (Candidate.meaning a .number) (Candidate.meaning a .place);
@@ -174,6 +206,7 @@ pub data Called : Outcome → Type 1 where
       → CountsWords n a
       → Called (record {
         rows = countRows n;
+        checks = countChecks;
         Checked = n ≤ countCeiling;
         Placed = NoPlace;
         refusal = refused (Count.meaning a .number) (Count.meaning a .place);
@@ -184,6 +217,7 @@ pub data Called : Outcome → Type 1 where
       → Stations r x a
       → Called (record {
         rows = stationRows r x;
+        checks = stationChecks;
         Checked = StationChecked r x;
         Placed = NoPlace;
         refusal = refused (Station.meaning a .number) (Station.meaning a .place);
@@ -194,6 +228,7 @@ pub data Called : Outcome → Type 1 where
       → Forecasted r cells ups downs t out next entered entered-next left left-next place number
       → Called (record {
         rows = forecastRows r cells ups downs t (length out);
+        checks = forecastChecks;
         Checked = Forecast.Checked r cells ups downs t (length out);
         Placed = ValuePlaces r cells ups downs;
         refusal = refused number place;
@@ -204,6 +239,7 @@ pub data Called : Outcome → Type 1 where
       → SettledRun r cells up down t out next settled settled-next steps steps-next place number
       → Called (record {
         rows = settleRows r cells up down t (length out);
+        checks = settleChecks;
         Checked = SettleChecked r cells up down t (length out);
         Placed = PairPlaces r cells up down;
         refusal = refused number place;
@@ -214,6 +250,7 @@ pub data Called : Outcome → Type 1 where
       → StateRead r cells up down letters letters-next modes modes-next counts counts-next queued queued-next place number
       → Called (record {
         rows = readRows r cells up down (length letters) (length modes);
+        checks = readChecks;
         Checked = ReadChecked r cells up down (length letters) (length modes);
         Placed = PairPlaces r cells up down;
         refusal = refused number place;
@@ -224,6 +261,7 @@ pub data Called : Outcome → Type 1 where
       → WordFitted r cells up down word holds holds-next face face-next place number
       → Called (record {
         rows = fitRows r cells up down word;
+        checks = fitChecks;
         Checked = FitChecked r cells up down word;
         Placed = PairWordPlaces r cells up down word;
         refusal = refused number place;
@@ -234,6 +272,7 @@ pub data Called : Outcome → Type 1 where
       → RowsPredicted r cells up down word out next place number
       → Called (record {
         rows = predictRows r cells up down word (length out);
+        checks = predictChecks;
         Checked = PredictChecked r cells up down word (length out);
         Placed = PairWordPlaces r cells up down word;
         refusal = refused number place;
@@ -244,6 +283,7 @@ pub data Called : Outcome → Type 1 where
       → CandidatePredicted r mode left own right numerator numerator-next place number
       → Called (record {
         rows = candidateRows r mode left own right;
+        checks = candidateChecks;
         Checked = CandidateChecked r mode left own right;
         Placed = EstimatePlace r left own right;
         refusal = refused number place;
@@ -254,6 +294,7 @@ pub data Called : Outcome → Type 1 where
       → WordsCounted n words words-next place number
       → Called (record {
         rows = countRows n;
+        checks = countChecks;
         Checked = n ≤ countCeiling;
         Placed = NoPlace;
         refusal = refused number place;
@@ -265,6 +306,7 @@ pub data Called : Outcome → Type 1 where
       → StationEstimated r x estimate estimate-next place number
       → Called (record {
         rows = stationRows r x;
+        checks = stationChecks;
         Checked = StationChecked r x;
         Placed = NoPlace;
         refusal = refused number place;

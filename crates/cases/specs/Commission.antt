@@ -9,7 +9,7 @@ use lib.IntN.{ℤ, pos, _-ℤ_, natAbs}
 use lib.Ieee.{fin, binary64, ofInt}
 use lib.ListN.{length, getD}
 use Rattle.road.specs.Judgement.{Accepted}
-use Rattle.road.specs.Table.{judge, Applies}
+use Rattle.road.specs.Table.{row, judge, rowAt, Applies}
 use Rattle.road.specs.declared.Road.{Road}
 use Rattle.floats.specs.Worth.{Worth, FiniteUpTo}
 use Rattle.flux.specs.Face.{numerator, letterW, letterL, letterD}
@@ -43,10 +43,15 @@ EachCall Says = (o : Outcome) → Called o → Says o
 pub record Demand1 : Type 1 where
   -- "its own judgement of road, lists and values": no contract asks anything of its caller, and what is accepted is checked
   pub judges : EachCall (λ o. o .refusal .number ≡ 0 → o .Checked)
-  -- "on bad input the first fitting number and place of the refusal table": they are a row's whose condition holds; where one holds, one is returned; and no lower number applies
-  pub fitting : EachCall (λ o. 0 < o .refusal .number → Applies (o .rows) (o .refusal .number) (o .refusal .place))
+  -- "on bad input the first fitting number and place of the refusal table": they are those of a row which holds, and no row before it holds; where one
+  -- holds, one is returned
+  pub first : EachCall (λ o. 0 < o .refusal .number
+      → (i : ℕ) × (i < length (o .rows)) × (rowAt (o .rows) i ≡ row true (o .refusal .number) (o .refusal .place))
+      × ((j : ℕ) → j < i → rowAt (o .rows) j .condition ≡ false))
   pub returned : EachCall (λ o. (number place : ℕ) → Applies (o .rows) number place → 0 < o .refusal .number)
-  pub first : EachCall (λ o. (number place : ℕ) → Applies (o .rows) number place → o .refusal .number ≤ number)
+  -- the rows stand in the order of document 01's numbers, so that "the lowest number that applies is returned"
+  pub checks : EachCall (λ o. map (λ r. r .number) (o .rows) ≡ o .checks)
+  pub lowest : EachCall (λ o. (number place : ℕ) → Applies (o .rows) number place → o .refusal .number ≤ number)
   pub place : EachCall (λ o. o .Placed (o .refusal))
   -- number and place are what the table comes to, down its rows
   pub table : EachCall (λ o. o .refusal ≡ judge (o .rows))

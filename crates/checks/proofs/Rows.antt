@@ -1,17 +1,20 @@
 -- What each row says where it does not refuse, and the other way round.
-use mathlib.Core.Path.{_≡_}
-use mathlib.Core.Bool.{false, not}
-use mathlib.Core.List.{List}
-use Prim.Native.Nat.{ℕ, _≤_}
-use lib.Dec.{eqb}
+use mathlib.Core.Path.{_≡_, _∙_, refl}
+use mathlib.Core.Bool.{Bool, true, false, not}
+use mathlib.Core.List.{List, [], _∷_}
+use Prim.Native.Nat.{ℕ, zero, suc, _≤_, zero-le}
+use lib.Dec.{eqb, ltb}
 use lib.ListN.{getD}
 use borrow.Author.Tests.{eqb-true, eq-eqb, ltb-false, le-ltb, not-false}
 use Rattle.road.specs.Ceilings.{cellsCeiling, horizonCeiling}
 use Rattle.road.specs.declared.Road.{Road}
-use Rattle.road.proofs.Table.{Passing}
+use Rattle.road.specs.Choice.{pick}
+use Rattle.road.specs.Table.{refused, orIf}
+use Rattle.road.specs.declared.refusal.Refusal.{Refusal}
+use Rattle.road.proofs.Table.{next-row, _&_}
 use Rattle.road.proofs.Choice.{or-left, or-right, neither, from-low, to-high, inside}
 use Rattle.checks.specs.Lists.{badCells, badHorizon, badEnds, badOutput}
-use Rattle.checks.specs.Values.{pairRows}
+use Rattle.checks.specs.Values.{firstAbove, anyAbove}
 use Rattle.checks.proofs.First.{none-above}
 
 -- two numbers that a test does not tell apart
@@ -51,6 +54,22 @@ output-long expected given e = same given expected e
 pub output-passes : (expected given : ℕ) → given ≡ expected → badOutput expected given ≡ false
 output-passes expected given e = alike given expected e
 
--- the rows of one end pair, where no density is above jam
-pub pair-passes : (r : Road) (cells : List ℕ) (up down : ℕ) → ((i : ℕ) → getD cells i 0 ≤ r .jam) → up ≤ r .jam → down ≤ r .jam → Passing (pairRows r cells up down)
-pair-passes r cells up down c u d = (none-above (r .jam) cells c, (le-ltb (r .jam) up u, (le-ltb (r .jam) down d, tt)))
+-- one density is below j where the list that holds it alone is
+one-below : {j x : ℕ} → x ≤ j → (i : ℕ) → getD (x ∷ []) i 0 ≤ j
+one-below h zero = h
+one-below h (suc i) = zero-le
+
+-- one end, tested alone: its row is that of the list that holds it alone
+pub one-end : (n j x : ℕ) {f g : Refusal} {c : Bool} → f ≡ g → c ≡ ltb j x → orIf f c n 0 ≡ orIf g (anyAbove j (x ∷ [])) n (firstAbove j (x ∷ []))
+unfolding orIf firstAbove
+one-end n j x {g = g} e q = next-row n e q refl ∙ by-test (ltb j x)
+  where
+    by-test : (b : Bool) → pick (eqb (g .number) 0) (pick b (refused n 0) g) g ≡ pick (eqb (g .number) 0) (pick (ltb (pick b 0 1) 1) (refused n (pick b 0 1)) g) g
+    by-test true = refl
+    by-test false = refl
+
+-- the rows of one end pair, where no density is above jam, with what is known of the rows below
+pub pair-passes : (r : Road) (cells : List ℕ) (up down : ℕ) → ((i : ℕ) → getD cells i 0 ≤ r .jam) → up ≤ r .jam → down ≤ r .jam → {Below : Type 0} → Below
+    → (anyAbove (r .jam) cells ≡ false) × ((anyAbove (r .jam) (up ∷ []) ≡ false) × ((anyAbove (r .jam) (down ∷ []) ≡ false) × Below))
+pair-passes r cells up down c u d below =
+    none-above (r .jam) cells c & none-above (r .jam) (up ∷ []) (one-below u) & none-above (r .jam) (down ∷ []) (one-below d) & below

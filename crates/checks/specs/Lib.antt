@@ -1,4 +1,5 @@
 -- The definitions of rows 5 to 11 of the refusal table, and what the places of 9 to 11 mean.
 pub mod Lists
 pub mod Values
+pub mod Rows
 pub mod Places

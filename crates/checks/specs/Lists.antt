@@ -1,4 +1,4 @@
--- The rows "Lists" of the refusal table.
+-- What the rows "Lists" of the refusal table test.
 use mathlib.Core.Bool.{Bool, not}
 use Prim.Native.Nat.{ℕ}
 use lib.Dec.{eqb, ltb}

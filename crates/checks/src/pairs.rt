@@ -4,7 +4,7 @@ ghost use Prim.Native.Nat.{_≤_};
 ghost use lib.ListN.{length};
 ghost use Rattle.road.specs.Ceilings.{cellsCeiling};
 ghost use Rattle.road.specs.Table.{judgeBelow};
-ghost use Rattle.checks.specs.Values.{pairRows};
+ghost use Rattle.checks.specs.Rows.{pairRows};
 use super::values::first_above;
 use super::values::is_above;
 use road::Refusal;

@@ -4,13 +4,12 @@ use mathlib.Core.List.{List}
 use Prim.Native.Nat.{ℕ, _≤_, _<_}
 use native.Mathlib.Omega.{arith}
 use lib.ListN.{length}
-use Rattle.road.specs.Ceilings.{horizonCeiling}
 use Rattle.road.specs.Judgement.{Accepted}
 use Rattle.road.specs.declared.Road.{Road}
 use Rattle.flux.specs.Pace.{paceOf}
 use Rattle.flux.specs.declared.pace.Pace.{Pace}
 use Rattle.scheme.specs.Sums.{Below}
-use Rattle.scheme.specs.Calls.{Ready, Ran, SettledTo}
+use Rattle.scheme.specs.Calls.{Ready, ReadyToRun, Ran, SettledTo}
 use Rattle.scheme.specs.declared.many_steps.Totals.{Totals}
 use Rattle.scheme.specs.declared.settling.Settled.{Settled}
 use Rattle.forecast.specs.declared.forecasting.ForecastAnswer.the-variants as F
@@ -25,32 +24,25 @@ module _ (r : Road) (p : Pace) (made : p ≡ paceOf r) where
   unfolding paceOf
   road-of = ap (λ (q : Pace). q .road) made
 
-  ready : Accepted r → Ready p
-  ready ok = record { accepted = rw road-of ok; made = made ∙ ap paceOf (sym road-of) }
-
   module _ (cells xs : List ℕ) (copied : xs ≡ cells) where
+    ready : {up down : ℕ} → Accepted r → 0 < length cells → Below (r .jam) cells → up ≤ r .jam → down ≤ r .jam → Ready p xs up down
+    ready ok some below up-high down-high = record {
+      accepted = rw road-of ok;
+      made = made ∙ ap paceOf (sym road-of);
+      some = rw copied some;
+      below = rw (road-of, copied) below;
+      up-high = rw road-of up-high;
+      down-high = rw road-of down-high;
+    }
+
     -- what the run asks, of a checked input
     pub run-asks : (ups downs : List ℕ) (t out : ℕ) → Checked r cells ups downs t out
-        → Ready p × ((0 < length xs) × (Below (p .road .jam) xs × (Below (p .road .jam) ups × (Below (p .road .jam) downs × ((length downs ≡ length ups) × (length ups ≤ horizonCeiling))))))
-    run-asks ups downs t out c = (
-      ready (c .accepted),
-      rw (road-of, copied) (
-        c .cells-low,
-        (
-          c .cells-below,
-          (
-            c .ups-below,
-            (
-              c .downs-below,
-              (
-                c .downs-long ∙ sym (c .ups-long),
-                let u = c .ups-long in let h = c .horizon-high in omega arith,
-              ),
-            ),
-          ),
-        ),
-      ),
-    )
+        → ReadyToRun p xs ups downs
+    run-asks ups downs t out c = record {
+      each = λ k. ready (c .accepted) (c .cells-low) (c .cells-below) (c .ups-below k) (c .downs-below k);
+      same = c .downs-long ∙ sym (c .ups-long);
+      short = let u = c .ups-long in let h = c .horizon-high in omega arith;
+    }
 
     -- what it hands back, as the forecast's promise
     pub run-gives : (ups downs : List ℕ) (t : ℕ) (out : List ℕ) → forecastRefusal r cells ups downs t (length out) .number ≡ 0
@@ -58,9 +50,8 @@ module _ (r : Road) (p : Pace) (made : p ≡ paceOf r) where
     run-gives ups downs t out e next d ran = done r cells ups downs t out e next d (rw (road-of, copied) at ran)
 
     pub settle-asks : (up down t out : ℕ) → SettleChecked r cells up down t out
-        → Ready p × ((0 < length xs) × (Below (p .road .jam) xs × ((up ≤ p .road .jam) × (down ≤ p .road .jam))))
-    settle-asks up down t out c =
-        (ready (c .accepted), rw (road-of, copied) (c .cells-low, (c .cells-below, (c .up-below, c .down-below))))
+        → Ready p xs up down
+    settle-asks up down t out c = ready (c .accepted) (c .cells-low) (c .cells-below) (c .up-below) (c .down-below)
 
     pub settle-gives : (up down t : ℕ) (out : List ℕ) → settleRefusal r cells up down t (length out) .number ≡ 0
         → (next : List ℕ) (d : Settled) → SettledTo (p .road) up down t xs next d → Settles r cells up down t out next (S.Done d)

@@ -6,16 +6,14 @@ use Prim.Native.Nat.{ℕ, _+_, _≤_}
 use native.Mathlib.Omega.{arith}
 use lib.Dec.{eqb}
 use lib.ListN.{length}
-use borrow.Author.Tests.{eq-eqb}
 use Rattle.road.specs.Ceilings.{cellsCeiling}
 use Rattle.road.specs.Judgement.{Accepted}
 use Rattle.road.specs.declared.Road.{Road}
-use Rattle.road.specs.declared.refusal.Refusal.{Refusal}
+use Rattle.road.proofs.Calls.{accepts-checked}
 use Rattle.scheme.specs.Sums.{sum, Below}
 use Rattle.scheme.specs.Rounded.{roundRun, entered, left}
 use Rattle.scheme.specs.Settling.{settles, settleSteps, settleCells}
-use Rattle.scheme.proofs.Runs.{roundRun-length}
-use Rattle.scheme.proofs.Promises.{round-range, round-balance, settle-range, settle-length, after-balance}
+use Rattle.scheme.proofs.Promises.{roundRun-length, round-range, round-balance, settle-range, settle-length, after-balance}
 use Rattle.forecast.specs.declared.forecasting.ForecastAnswer.{ForecastAnswer}
 use Rattle.forecast.specs.declared.forecasting.ForecastAnswer.the-variants as F
 use Rattle.forecast.specs.declared.settling.SettleAnswer.{SettleAnswer}
@@ -23,7 +21,7 @@ use Rattle.forecast.specs.declared.settling.SettleAnswer.the-variants as
 use Rattle.forecast.specs.Forecast.{forecastRefusal, forecastAnswer, forecastCells, meaning, Checked}
 use Rattle.forecast.specs.Settle.{settleRefusal, settleAnswer, settleOutput, meaning as settle-meaning, SettleChecked}
 use Rattle.forecast.specs.Chain.{ForecastCall, SettleCall, Call, forecast, settle, ForecastPasses, SettlePasses, Passes, AllPass, answerTo, settleAnswerTo, IsDone, cellsAfter, stepsReported, enteredIn, leftIn, lastCells, allEntered, allLeft, ForEver}
-use Rattle.forecast.proofs.Checked.{checked-passes, settle-checked-passes}
+use Rattle.forecast.proofs.Checked.{forecast-call, settle-call}
 
 -- the state of the chain: cells that every call accepts
 record Feeds (r : Road) (n : ℕ) (cells : List ℕ) : Type 0 where
@@ -56,7 +54,7 @@ module _ (r : Road) (n : ℕ) (cells : List ℕ) (c : ForecastCall) (f : Feeds r
   }
 
   accepts : eqb (forecastRefusal r cells (c .ups) (c .downs) (c .horizon) (length (c .out)) .number) 0 ≡ true
-  accepts = eq-eqb _ 0 (ap (λ (g : Refusal). g .number) (checked-passes r cells (c .ups) (c .downs) (c .horizon) (length (c .out)) checked))
+  accepts = accepts-checked (forecast-call r cells (c .ups) (c .downs) (c .horizon) (length (c .out))) checked
 
   answers : answerTo r cells c ≡ F.Done (record { entered = entered r (c .ups) (c .downs) cells; left = left r (c .ups) (c .downs) cells })
   unfolding forecastAnswer
@@ -99,7 +97,7 @@ module _ (r : Road) (n : ℕ) (cells : List ℕ) (c : SettleCall) (f : Feeds r n
   }
 
   settle-accepts : eqb (settleRefusal r cells (c .up) (c .down) (c .horizon) (length (c .out)) .number) 0 ≡ true
-  settle-accepts = eq-eqb _ 0 (ap (λ (g : Refusal). g .number) (settle-checked-passes r cells (c .up) (c .down) (c .horizon) (length (c .out)) settle-checked))
+  settle-accepts = accepts-checked (settle-call r cells (c .up) (c .down) (c .horizon) (length (c .out))) settle-checked
 
   settle-answers : settleAnswerTo r cells c ≡ S.Done (record { settled = settles r (c .up) (c .down) (c .horizon) cells; steps = settleSteps r (c .up) (c .down) (c .horizon) cells })
   unfolding settleAnswer

@@ -4,4 +4,4 @@ pub mod Answers
 pub mod Copied
 pub mod Calling
 pub mod ForEver
-pub mod Places
+pub mod NoSteps

@@ -5,13 +5,12 @@ use Prim.Native.Nat.{ℕ, _+_, _-_, _*_, _^_, _≤_}
 use lib.Dec.{eqb}
 use lib.ListN.{length}
 use Rattle.road.specs.Choice.{pick}
-use Rattle.road.specs.Table.{Row, row, judge, refused, Judged}
+use Rattle.road.specs.Table.{Row, judge, refused, Judged}
 use Rattle.road.specs.Ceilings.{cellsCeiling, horizonCeiling}
 use Rattle.road.specs.Judgement.{roadRows, Accepted}
 use Rattle.road.specs.declared.Road.{Road}
 use Rattle.road.specs.declared.refusal.Refusal.{Refusal}
-use Rattle.checks.specs.Lists.{badCells, badHorizon, badEnds, badOutput}
-use Rattle.checks.specs.Values.{firstAbove, anyAbove}
+use Rattle.checks.specs.Rows.{cellsRow, horizonRow, endsRow, outputRow, valueRows}
 use Rattle.checks.specs.Places.{Placed}
 use Rattle.scheme.specs.Sums.{sum, distance, times, Below}
 use Rattle.scheme.specs.Rounded.{roundRun, entered, left}
@@ -23,20 +22,11 @@ use Rattle.forecast.specs.declared.forecasting.ForecastAnswer.the-varian
 
 -- rows 5 to 8, over the numbers of cells, of upstream and downstream ends, and the output's length
 abbrev pub listRows : ℕ → ℕ → ℕ → ℕ → ℕ → List Row
-listRows cells ups downs t out =
-    row (badCells cells) 5 0 ∷ row (badHorizon t) 6 0 ∷ row (badEnds t ups downs) 7 0 ∷ row (badOutput cells out) 8 0 ∷ []
+listRows cells ups downs t out = cellsRow cells ∷ horizonRow t ∷ endsRow t ups downs ∷ outputRow cells out ∷ []
 
 -- rows 1 to 8
 abbrev pub shapeRows : Road → ℕ → ℕ → ℕ → ℕ → ℕ → List Row
 shapeRows r cells ups downs t out = roadRows r ++ listRows cells ups downs t out
-
--- rows 9 to 11: the lowest cell, numbered from 1, and the first ends, from 0
-abbrev pub valueRows : Road → List ℕ → List ℕ → List ℕ → List Row
-valueRows r cells ups downs =
-    row (anyAbove (r .jam) cells) 9 (firstAbove (r .jam) cells + 1)
-    ∷ row (anyAbove (r .jam) ups) 10 (firstAbove (r .jam) ups)
-    ∷ row (anyAbove (r .jam) downs) 11 (firstAbove (r .jam) downs)
-    ∷ []
 
 unfoldable pub shapeRefusal : Road → ℕ → ℕ → ℕ → ℕ → ℕ → Refusal
 shapeRefusal r cells ups downs t out = judge (shapeRows r cells ups downs t out)

@@ -6,13 +6,12 @@ use Prim.Native.Nat.{ℕ, _≤_}
 use lib.Dec.{eqb}
 use lib.ListN.{length, replicate}
 use Rattle.road.specs.Choice.{pick}
-use Rattle.road.specs.Table.{Row, row, judge, refused, Judged}
+use Rattle.road.specs.Table.{Row, judge, refused, Judged}
 use Rattle.road.specs.Ceilings.{cellsCeiling, horizonCeiling}
 use Rattle.road.specs.Judgement.{roadRows, Accepted}
 use Rattle.road.specs.declared.Road.{Road}
 use Rattle.road.specs.declared.refusal.Refusal.{Refusal}
-use Rattle.checks.specs.Lists.{badCells, badHorizon, badOutput}
-use Rattle.checks.specs.Values.{pairRows}
+use Rattle.checks.specs.Rows.{cellsRow, horizonRow, outputRow, pairRows}
 use Rattle.checks.specs.Places.{Placed}
 use Rattle.scheme.specs.Sums.{Below}
 use Rattle.scheme.specs.Rounded.{entered, left}
@@ -24,7 +23,7 @@ use Rattle.forecast.specs.declared.settling.SettleAnswer.the-variants.{D
 
 -- rows 5, 6 and 8
 abbrev pub settleListRows : ℕ → ℕ → ℕ → List Row
-settleListRows cells t out = row (badCells cells) 5 0 ∷ row (badHorizon t) 6 0 ∷ row (badOutput cells out) 8 0 ∷ []
+settleListRows cells t out = cellsRow cells ∷ horizonRow t ∷ outputRow cells out ∷ []
 
 -- rows 1 to 6 and 8
 abbrev pub settleShapeRows : Road → ℕ → ℕ → ℕ → List Row

@@ -1,24 +1,22 @@
 -- The candidate's answers, accepted and refused; the numerator is never −0.0, and on whole estimates it is the whole row's value.
 use mathlib.Core.Path.{_≡_, _∙_, refl, sym, ap, subst}
-use mathlib.Core.Bool.{Bool, true, false}
+use mathlib.Core.Bool.{Bool, true, false, true≢false}
 use Prim.Native.Nat.{ℕ, _+_, _*_, _^_, _≤_}
 use native.Mathlib.Nat.{le-trans, mul-le-mul}
 use native.Mathlib.Omega.{arith}
-use lib.Dec.{lit<, lit≤, eqb}
+use lib.Dec.{lit≤}
 use lib.IntN.{ℤ, pos, natAbs}
 use lib.Ieee.{Float, fin, binary64, prec, ne, lt, ofInt, ofBits}
 use lib.Ieee.Fits.{add-fits}
-use borrow.Author.Tests.{eq-eqb, ne-eqb}
 use Rattle.road.specs.Choice.{pick, or}
 use Rattle.road.specs.Ceilings.{divisorCeiling}
-use Rattle.road.specs.Table.{Row, passed}
-use Rattle.road.specs.Judgement.{roadRows, Accepted}
+use Rattle.road.specs.Judgement.{Accepted}
 use Rattle.road.specs.declared.Road.{Road}
 use Rattle.road.specs.declared.refusal.Refusal.{Refusal}
-use Rattle.road.proofs.Table.{none-holds, nothing-refused, row-returned, passing-append, all-pass, judged-rows}
-use Rattle.road.proofs.Acceptance.{road-passing}
+use Rattle.road.proofs.Table.{_&_}
+use Rattle.road.proofs.Acceptance.{accepted-by, road-passes}
 use Rattle.road.proofs.Choice.{or-left, or-right, neither, from-low, to-high, inside}
-use Rattle.road.proofs.Parts.{road-first}
+use Rattle.road.proofs.Calls.{Call, refuses, accepts}
 use Rattle.floats.specs.Worth.{Worth, FiniteUpTo, Passes}
 use Rattle.floats.proofs.Round.{ofInt-worth}
 use Rattle.floats.proofs.Row.{row-exact}
@@ -77,58 +75,33 @@ estimate-placed false false c e =
     record { low = lit≤ tt; high = lit≤ tt; first = λ q. absurd (omega arith); second = λ q. absurd (omega arith); third = λ q. (refl, refl, e) }
 
 module _ (r : Road) (mode : ℕ) (left own right : Float) where
-  candidate-placed : C.CandidatePlaced r left own right (C.candidateRefusal r mode left own right)
+  -- the candidate's table refuses nothing exactly of a checked input
+  pub candidate-call : Call (C.candidateRows r mode left own right) (C.CandidateChecked r mode left own right) (C.CandidatePlaced r left own right) (C.candidateRefusal r mode left own right)
   unfolding C.candidateRefusal
-  candidate-placed e =
-      let back = row-returned (C.candidateRows r mode left own right) tt 5 (lit< tt) e in
-      let holds : C.badEstimates (r .jam) left own right ≡ true = ap (λ (x : Row). x .condition) back in
-      let same : C.estimatePlace (r .jam) left own ≡ C.candidateRefusal r mode left own right .place = ap (λ (x : Row). x .place) back in
-      subst (EstimatePlaced (C.badEstimate (r .jam) left) (C.badEstimate (r .jam) own) (C.badEstimate (r .jam) right)) same
-      (estimate-placed (C.badEstimate (r .jam) left) (C.badEstimate (r .jam) own) (C.badEstimate (r .jam) right) holds)
-
-  -- an input that nothing is refused of
-  pub candidate-checked-of : C.candidateRefusal r mode left own right .number ≡ 0 → C.CandidateChecked r mode left own right
-  unfolding C.candidateRefusal
-  candidate-checked-of e =
-      let no = none-holds (C.candidateRows r mode left own right) tt e in
-      let j = r .jam in
-      let any : C.badEstimates j left own right ≡ false = no 5 (lit< tt) in
-      let rest = or-right (C.badEstimate j left) (or (C.badEstimate j own) (C.badEstimate j right)) any in
-      let ok = road-first r (C.estimateRows r mode left own right) e in
+  candidate-call =
+      let a = C.badEstimate (r .jam) left in
+      let b = C.badEstimate (r .jam) own in
+      let c = C.badEstimate (r .jam) right in
       record {
-        accepted = ok;
-        mode-low = from-low 1 7 mode (no 4 (lit< tt));
-        mode-high = to-high 1 7 mode (no 4 (lit< tt));
-        left-finite = finite-of r ok left (or-left (C.badEstimate j left) (or (C.badEstimate j own) (C.badEstimate j right)) any);
-        own-finite = finite-of r ok own (or-left (C.badEstimate j own) (C.badEstimate j right) rest);
-        right-finite = finite-of r ok right (or-right (C.badEstimate j own) (C.badEstimate j right) rest);
+        is = refl;
+        distinct = tt;
+        placed = λ at e. let (holds, same) = at 14 tt e in subst (EstimatePlaced a b c) same (estimate-placed a b c holds);
+        of = λ no.
+            let ok = accepted-by r (no 1) (no 2) (no 3) (no 4) in
+            let rest = or-right a (or b c) (no 14) in
+            record {
+              accepted = ok;
+              mode-low = from-low 1 7 mode (no 13);
+              mode-high = to-high 1 7 mode (no 13);
+              left-finite = finite-of r ok left (or-left a (or b c) (no 14));
+              own-finite = finite-of r ok own (or-left b c rest);
+              right-finite = finite-of r ok right (or-right b c rest);
+            };
+        passes = λ k.
+            let ok = k .accepted in
+            let rest = neither b c (of-finite r ok own (k .own-finite)) (of-finite r ok right (k .right-finite)) in
+            road-passes r ok (inside 1 7 mode (k .mode-low) (k .mode-high) & neither a (or b c) (of-finite r ok left (k .left-finite)) rest & tt);
       }
-
-  -- and the other way round: no refusal otherwise
-  pub candidate-checked-passes : C.CandidateChecked r mode left own right → C.candidateRefusal r mode left own right ≡ passed
-  unfolding C.candidateRefusal
-  candidate-checked-passes c =
-      all-pass (C.candidateRows r mode left own right)
-      (passing-append (roadRows r) (C.estimateRows r mode left own right) (road-passing r (c .accepted)) (
-        inside 1 7 mode (c .mode-low) (c .mode-high),
-        (
-          neither (C.badEstimate (r .jam) left) (or (C.badEstimate (r .jam) own) (C.badEstimate (r .jam) right))
-              (of-finite r (c .accepted) left (c .left-finite))
-              (neither (C.badEstimate (r .jam) own) (C.badEstimate (r .jam) right)
-              (of-finite r (c .accepted) own (c .own-finite))
-              (of-finite r (c .accepted) right (c .right-finite))),
-          tt,
-        ),
-      ))
-
-  -- demand 1 of the judgement
-  candidate-judged : C.CandidateJudged r mode left own right (C.candidateRefusal r mode left own right)
-  unfolding C.candidateRefusal
-  candidate-judged =
-      judged-rows (C.candidateRows r mode left own right) tt (C.CandidatePlaced r left own right)
-      candidate-placed
-      candidate-checked-of
-      candidate-checked-passes
 
   -- each number of the row is exactly the whole one
   row-exactly : C.CandidateChecked r mode left own right → C.RowWhole r mode
@@ -202,29 +175,27 @@ module _ (r : Road) (mode : ℕ) (left own right : Float) where
       → C.Candidates r mode left own right (Refused f)
   unfolding C.candidateAnswer C.candidateMeaning
   candidate-refused f e n =
-      let no : eqb (C.candidateRefusal r mode left own right .number) 0 ≡ false = rw e at (ne-eqb (f .number) 0 n) in
+      let k = refuses (candidate-call r mode left own right) e n in
       record {
-        answer = rw no (ap Refused e);
-        means = rw no (ap (λ (g : Refusal). C.meaning (Refused g)) e);
-        judged = rw (← e) at (candidate-judged r mode left own right);
-        row-whole = λ p q. let z : _≡_ {A = ℕ} 0 1 = cc q in absurd (omega arith);
-        exact = λ p q. let z : _≡_ {A = ℕ} 0 1 = cc q in absurd (omega arith);
-        plain = λ p q. let z : _≡_ {A = ℕ} 0 1 = cc q in absurd (omega arith);
+        answer = rw (k .no) (ap Refused e);
+        means = rw (k .no) (ap (λ (g : Refusal). C.meaning (Refused g)) e);
+        judged = k .judged;
+        row-whole = λ p q. absurd (true≢false (cc q));
+        exact = λ p q. absurd (true≢false (cc q));
+        plain = λ p q. absurd (true≢false (cc q));
       }
 
   -- accepted: the row applied
   pub candidate-done : C.candidateRefusal r mode left own right .number ≡ 0 → (x : Float) → x ≡ C.candidateNumerator r mode left own right
       → C.Candidates r mode left own right (Done (record { numerator = x }))
-  unfolding C.candidateAnswer C.candidateMeaning C.candidateRefusal
+  unfolding C.candidateAnswer C.candidateMeaning
   candidate-done e x is =
-      let yes-it-is : eqb (C.candidateRefusal r mode left own right .number) 0 ≡ true = eq-eqb _ 0 e in
-      let nothing : C.candidateRefusal r mode left own right ≡ passed = nothing-refused (C.candidateRows r mode left own right) tt e in
-      let checked = candidate-checked-of r mode left own right e in
+      let k = accepts (candidate-call r mode left own right) e in
       record {
-        answer = rw yes-it-is (λ i. Done (record { numerator = is i }));
-        means = rw yes-it-is (λ i. record { number = sym nothing i .number; place = sym nothing i .place; value = is i });
-        judged = rw nothing at (candidate-judged r mode left own right);
-        row-whole = λ p q. row-exactly r mode left own right checked;
-        exact = λ p q l o t l-is o-is t-is. rw (sym (same-numerator q) ∙ is) (whole-row r mode left own right checked l o t l-is o-is t-is);
-        plain = λ p q. rw (sym (same-numerator q) ∙ is) (never-minus-zero r mode left own right checked);
+        answer = rw (k .yes) (λ i. Done (record { numerator = is i }));
+        means = rw (k .yes) (λ i. record { number = sym (k .nothing) i .number; place = sym (k .nothing) i .place; value = is i });
+        judged = k .judged;
+        row-whole = λ p q. row-exactly r mode left own right (k .checked);
+        exact = λ p q l o t l-is o-is t-is. rw (sym (same-numerator q) ∙ is) (whole-row r mode left own right (k .checked) l o t l-is o-is t-is);
+        plain = λ p q. rw (sym (same-numerator q) ∙ is) (never-minus-zero r mode left own right (k .checked));
       }

@@ -1,16 +1,14 @@
 -- The word count's answers, refused and accepted, and demand 1.
-use mathlib.Core.Path.{_≡_, _∙_, sym, ap}
-use mathlib.Core.Bool.{true, false}
+use mathlib.Core.Path.{_≡_, _∙_, refl, sym, ap}
+use mathlib.Core.Bool.{true≢false}
 use Prim.Native.Nat.{ℕ, _≤_}
-use native.Mathlib.Omega.{arith}
-use lib.Dec.{eqb, lit<}
-use borrow.Author.Tests.{eq-eqb, ne-eqb, ltb-false, le-ltb}
+use borrow.Author.Tests.{ltb-false, le-ltb}
 use Rattle.road.specs.Ceilings.{countCeiling}
-use Rattle.road.specs.Table.{passed}
 use Rattle.road.specs.declared.refusal.Refusal.{Refusal}
-use Rattle.road.proofs.Table.{none-holds, all-pass, nothing-refused, no-place, judged-rows}
+use Rattle.road.proofs.Table.{_&_, no-place}
+use Rattle.road.proofs.Calls.{Call, refuses, accepts}
 use Rattle.modes.specs.Words.{wordCount}
-use Rattle.modes.specs.Count.{countRows, countRefusal, countAnswer, countMeaning, meaning, CountJudged, CountsWords}
+use Rattle.modes.specs.Count.{countRows, countRefusal, countAnswer, countMeaning, meaning, CountsWords}
 use Rattle.modes.specs.declared.counting.WordCount.{WordCount}
 use Rattle.modes.specs.declared.counting.CountAnswer.{CountAnswer}
 use Rattle.modes.specs.declared.counting.CountAnswer.the-variants.{Done, Refused}
@@ -22,38 +20,34 @@ same-words e = ap (λ (x : WordCount). x .words) (cc e)
 
 module _ (n : ℕ) where
   -- nothing is refused exactly up to the ceiling
-  pub count-within : countRefusal n .number ≡ 0 → n ≤ countCeiling
+  pub count-call : Call (countRows n) (n ≤ countCeiling) (λ g. g .place ≡ 0) (countRefusal n)
   unfolding countRefusal
-  count-within e = ltb-false countCeiling n (none-holds (countRows n) tt e 0 (lit< tt))
-
-  pub count-passes : n ≤ countCeiling → countRefusal n ≡ passed
-  unfolding countRefusal
-  count-passes h = all-pass (countRows n) (le-ltb countCeiling n h, tt)
-
-  -- demand 1 of the judgement
-  count-judged : CountJudged n (countRefusal n)
-  unfolding countRefusal
-  count-judged = judged-rows (countRows n) tt (λ g. g .place ≡ 0) (no-place (countRows n) tt) count-within count-passes
+  count-call = record {
+    is = refl;
+    distinct = tt;
+    placed = λ at. no-place (countRows n) tt;
+    of = λ no. ltb-false countCeiling n (no 15);
+    passes = λ h. le-ltb countCeiling n h & tt;
+  }
 
   pub refused : (f : Refusal) → f ≡ countRefusal n → (f .number ≡ 0 → ⊥) → CountsWords n (Refused f)
   unfolding countAnswer countMeaning
   refused f e h =
-      let no : eqb (countRefusal n .number) 0 ≡ false = rw e at (ne-eqb (f .number) 0 h) in
+      let k = refuses count-call e h in
       record {
-        answer = rw no (ap Refused e);
-        means = rw no (ap (λ (g : Refusal). meaning (Refused g)) e);
-        judged = rw (← e) at count-judged;
-        counted = λ c q. let z : _≡_ {A = ℕ} 0 1 = cc q in absurd (omega arith);
+        answer = rw (k .no) (ap Refused e);
+        means = rw (k .no) (ap (λ (g : Refusal). meaning (Refused g)) e);
+        judged = k .judged;
+        counted = λ c q. absurd (true≢false (cc q));
       }
 
   pub done : countRefusal n .number ≡ 0 → (words : ℕ) → words ≡ wordCount n → CountsWords n (Done (record { words = words }))
-  unfolding countAnswer countMeaning countRefusal
+  unfolding countAnswer countMeaning
   done e words same =
-      let yes-it-is : eqb (countRefusal n .number) 0 ≡ true = eq-eqb _ 0 e in
-      let nothing : countRefusal n ≡ passed = nothing-refused (countRows n) tt e in
+      let k = accepts count-call e in
       record {
-        answer = rw yes-it-is (λ i. Done (record { words = same i }));
-        means = rw yes-it-is (λ i. record { number = sym nothing i .number; place = sym nothing i .place; words = same i });
-        judged = rw nothing at count-judged;
-        counted = λ c q. rw (sym (same-words q) ∙ same) (words-counted n (count-within e));
+        answer = rw (k .yes) (λ i. Done (record { words = same i }));
+        means = rw (k .yes) (λ i. record { number = sym (k .nothing) i .number; place = sym (k .nothing) i .place; words = same i });
+        judged = k .judged;
+        counted = λ c q. rw (sym (same-words q) ∙ same) (words-counted n (k .checked));
       }

@@ -1,62 +1,52 @@
 -- The row prediction's judgement and its answers: which inputs no row refuses, what is written of them, and what is answered of the others.
 use mathlib.Core.Path.{_≡_, refl, ap}
-use mathlib.Core.Bool.{true, false}
-use mathlib.Core.List.{List, _++_}
+use mathlib.Core.Bool.{true≢false}
+use mathlib.Core.List.{List, [], _∷_}
 use Prim.Native.Nat.{ℕ, _≤_}
-use lib.Dec.{eqb, lit<}
 use lib.IntN.{ℤ}
 use lib.ListN.{length}
-use native.Mathlib.Omega.{arith}
-use borrow.Author.Tests.{eq-eqb, ne-eqb, ltb-false}
 use Rattle.road.specs.Ceilings.{cellsCeiling}
-use Rattle.road.specs.Table.{row, passed}
-use Rattle.road.specs.Judgement.{roadRows}
 use Rattle.road.specs.declared.Road.{Road}
 use Rattle.road.specs.declared.refusal.Refusal.{Refusal}
-use Rattle.road.proofs.Table.{none-holds, passing-append, all-pass, nothing-refused, judged-rows}
-use Rattle.road.proofs.Acceptance.{road-passing}
-use Rattle.road.proofs.Parts.{road-first, part-stands}
+use Rattle.road.proofs.Table.{_&_, none-holds}
+use Rattle.road.proofs.Acceptance.{accepted-by, road-passes}
+use Rattle.road.proofs.Parts.{part-stands}
+use Rattle.road.proofs.Calls.{Call, refuses, accepts}
 use Rattle.checks.proofs.First.{all-below}
 use Rattle.checks.proofs.Rows.{cells-low, cells-high, cells-pass, output-long, output-passes}
 use Rattle.modes.specs.Modes.{rowNumerators}
-use Rattle.modes.specs.Judging.{pairWordRows, predictListRows, predictShapeRows, predictRows, predictRefusal}
+use Rattle.modes.specs.Judging.{pairWordRows, predictShapeRows, predictRows, predictRefusal}
 use Rattle.modes.specs.Places.{PairWordPlaced}
-use Rattle.modes.specs.Prediction.{predictAnswer, predicted, predictShapeRefusal, PredictChecked, PredictJudged, Predicts}
+use Rattle.modes.specs.Prediction.{predictAnswer, predicted, predictShapeRefusal, PredictChecked, Predicts}
 use Rattle.modes.specs.declared.prediction.PredictAnswer.the-variants.{Done, Refused}
 use Rattle.modes.proofs.WordRow.{word-long, word-legal, pair-word-passes, pair-word-placed}
 use Rattle.modes.proofs.PredictState.{predict-state}
 
 module _ (r : Road) (cells : List ℕ) (up down : ℕ) (word : List ℕ) where
   module _ (out : ℕ) where
-    -- an input that nothing is refused of
-    pub checked-of : predictRefusal r cells up down word out .number ≡ 0 → PredictChecked r cells up down word out
+    -- the row prediction's table refuses nothing exactly of a checked input
+    pub predict-call : Call (predictRows r cells up down word out) (PredictChecked r cells up down word out) (PairWordPlaced r cells up down word) (predictRefusal r cells up down word out)
     unfolding predictRefusal
-    checked-of e =
-        let no = none-holds (predictRows r cells up down word out) tt e in
-        record {
-          accepted = road-first r (predictListRows (length cells) out ++ pairWordRows r cells up down word) e;
-          cells-low = cells-low (length cells) (no 4 (lit< tt));
-          cells-high = cells-high (length cells) (no 4 (lit< tt));
-          output-long = output-long (length cells) out (no 5 (lit< tt));
-          cells-below = all-below (r .jam) cells (no 6 (lit< tt));
-          up-below = ltb-false (r .jam) up (no 7 (lit< tt));
-          down-below = ltb-false (r .jam) down (no 8 (lit< tt));
-          word-long = word-long (length cells) word (no 9 (lit< tt));
-          word-legal = word-legal (length cells) word (no 9 (lit< tt));
-        }
-
-    -- and the other way round: no refusal otherwise
-    pub checked-passes : PredictChecked r cells up down word out → predictRefusal r cells up down word out ≡ passed
-    unfolding predictRefusal
-    checked-passes c =
-        all-pass (predictRows r cells up down word out)
-        (passing-append (roadRows r) (predictListRows (length cells) out ++ pairWordRows r cells up down word) (road-passing r (c .accepted)) (
-          cells-pass (length cells) (c .cells-low) (c .cells-high),
-          (
-            output-passes (length cells) out (c .output-long),
-            pair-word-passes r cells up down word (c .cells-below) (c .up-below) (c .down-below) (c .word-long) (c .word-legal),
-          ),
-        ))
+    predict-call = record {
+      is = refl;
+      distinct = tt;
+      placed = λ at. pair-word-placed r cells up down word _ (at 9 tt) (at 10 tt) (at 11 tt) (at 12 tt);
+      of = λ no. record {
+        accepted = accepted-by r (no 1) (no 2) (no 3) (no 4);
+        cells-low = cells-low (length cells) (no 5);
+        cells-high = cells-high (length cells) (no 5);
+        output-long = output-long (length cells) out (no 8);
+        cells-below = all-below (r .jam) cells (no 9);
+        up-below = all-below (r .jam) (up ∷ []) (no 10) 0;
+        down-below = all-below (r .jam) (down ∷ []) (no 11) 0;
+        word-long = word-long (length cells) word (no 12);
+        word-legal = word-legal (length cells) word (no 12);
+      };
+      passes = λ c. road-passes r (c .accepted)
+          (cells-pass (length cells) (c .cells-low) (c .cells-high)
+          & output-passes (length cells) out (c .output-long)
+          & pair-word-passes r cells up down word (c .cells-below) (c .up-below) (c .down-below) (c .word-long) (c .word-legal));
+    }
 
     -- a refusal of the shape is the row prediction's, and otherwise the cells are few
     pub shape-stands : (f : Refusal) → f ≡ predictShapeRefusal r (length cells) out → (f .number ≡ 0 → ⊥) → f ≡ predictRefusal r cells up down word out
@@ -65,16 +55,7 @@ module _ (r : Road) (cells : List ℕ) (up down : ℕ) (word : List ℕ) where
 
     pub shape-short : predictShapeRefusal r (length cells) out .number ≡ 0 → length cells ≤ cellsCeiling
     unfolding predictShapeRefusal
-    shape-short e = cells-high (length cells) (none-holds (predictShapeRows r (length cells) out) tt e 4 (lit< tt))
-
-    -- demand 1 of the judgement
-    predict-judged : PredictJudged r cells up down word out (predictRefusal r cells up down word out)
-    unfolding predictRefusal
-    predict-judged =
-        judged-rows (predictRows r cells up down word out) tt (PairWordPlaced r cells up down word)
-        (pair-word-placed r cells up down word (predictShapeRows r (length cells) out) tt)
-        checked-of
-        checked-passes
+    shape-short e = cells-high (length cells) (none-holds (predictShapeRows r (length cells) out) tt e 5)
 
   module _ (out : List ℤ) where
     -- refused: the number and place of the table, and the former contents
@@ -82,28 +63,27 @@ module _ (r : Road) (cells : List ℕ) (up down : ℕ) (word : List ℕ) where
         → Predicts r cells up down word out out (Refused f)
     unfolding predictAnswer predicted
     refused f e n =
-        let no : eqb (predictRefusal r cells up down word (length out) .number) 0 ≡ false = rw e at (ne-eqb (f .number) 0 n) in
+        let k = refuses (predict-call (length out)) e n in
         record {
-          answer = rw no (ap Refused e);
+          answer = rw (k .no) (ap Refused e);
           number = ap (λ (g : Refusal). g .number) e;
           place = ap (λ (g : Refusal). g .place) e;
-          output = rw no refl;
-          judged = rw (← e) at (predict-judged (length out));
-          state = λ q. let z : _≡_ {A = ℕ} 0 1 = cc q in absurd (omega arith);
+          output = rw (k .no) refl;
+          judged = k .judged;
+          state = λ q. absurd (true≢false (cc q));
         }
 
     -- accepted: the rows
     pub done : predictRefusal r cells up down word (length out) .number ≡ 0 → (next : List ℤ) → next ≡ rowNumerators r up down word cells
         → Predicts r cells up down word out next Done
-    unfolding predictAnswer predicted predictRefusal
+    unfolding predictAnswer predicted
     done e next is =
-        let yes-it-is : eqb (predictRefusal r cells up down word (length out) .number) 0 ≡ true = eq-eqb _ 0 e in
-        let nothing : predictRefusal r cells up down word (length out) ≡ passed = nothing-refused (predictRows r cells up down word (length out)) tt e in
+        let k = accepts (predict-call (length out)) e in
         record {
-          answer = rw yes-it-is refl;
-          number = rw nothing refl;
-          place = rw nothing refl;
-          output = rw yes-it-is is;
-          judged = rw nothing at (predict-judged (length out));
-          state = λ q. predict-state r cells up down word (length out) (checked-of (length out) e) next is;
+          answer = rw (k .yes) refl;
+          number = rw (k .nothing) refl;
+          place = rw (k .nothing) refl;
+          output = rw (k .yes) is;
+          judged = k .judged;
+          state = λ q. predict-state r cells up down word (length out) (k .checked) next is;
         }

@@ -1,28 +1,25 @@
 -- The reading's promise, refused and accepted, from what its parts hand back.
 use mathlib.Core.Path.{_≡_, _∙_, refl, sym, ap}
-use mathlib.Core.Bool.{true, false}
+use mathlib.Core.Bool.{true≢false}
 use mathlib.Core.List.{List}
 use Prim.Native.Nat.{ℕ, _+_, _≤_}
 use native.Mathlib.Omega.{arith}
-use lib.Dec.{eqb}
 use lib.ListN.{length}
-use borrow.Author.Tests.{eq-eqb, ne-eqb}
 use Rattle.road.specs.Ceilings.{cellsCeiling}
-use Rattle.road.specs.Table.{passed}
 use Rattle.road.specs.declared.Road.{Road}
 use Rattle.road.specs.declared.refusal.Refusal.{Refusal}
-use Rattle.road.proofs.Table.{nothing-refused}
+use Rattle.road.proofs.Calls as Calls
 use Rattle.scheme.specs.Word.{wordOf}
 use Rattle.scheme.proofs.Faces.{word-length}
 use Rattle.modes.specs.Modes.{modesOf}
-use Rattle.modes.specs.Judging.{readRows, readRefusal}
+use Rattle.modes.specs.Judging.{readRefusal}
 use Rattle.modes.specs.Reading.{Numbered, tallied, noCounts, readAnswer, readLetters, readModes, ReadChecked, Reads}
 use Rattle.modes.specs.declared.reading.ReadAnswer.{ReadAnswer}
 use Rattle.modes.specs.declared.reading.ReadAnswer.the-variants.{Done, Refused}
 use Rattle.modes.specs.declared.reading.Counts.{Counts}
 use Rattle.modes.specs.declared.reading.StateReading.{StateReading}
 use Rattle.modes.proofs.TalliedModes.{state-modes-length, state-numbered}
-use Rattle.modes.proofs.ReadJudging.{read-checked-of, read-judged}
+use Rattle.modes.proofs.ReadJudging.{read-call}
 use Rattle.modes.proofs.ReadState.{read-state}
 
 -- an answer beside its counts
@@ -35,21 +32,21 @@ module _ (r : Road) (cells : List ℕ) (up down : ℕ) (letters modes : List ℕ
       → Reads r cells up down letters letters modes modes (reading (Refused f) noCounts)
   unfolding readAnswer readLetters readModes
   refused f e n =
-      let no : eqb (readRefusal r cells up down (length letters) (length modes) .number) 0 ≡ false = rw e at (ne-eqb (f .number) 0 n) in
+      let k = Calls.refuses (read-call r cells up down (length letters) (length modes)) e n in
       record {
-        answer = rw no (ap (λ (g : Refusal). reading (Refused g) noCounts) e);
+        answer = rw (k .no) (ap (λ (g : Refusal). reading (Refused g) noCounts) e);
         number = ap (λ (g : Refusal). g .number) e;
         place = ap (λ (g : Refusal). g .place) e;
-        letters-written = rw no refl;
-        modes-written = rw no refl;
-        judged = rw (← e) at (read-judged r cells up down (length letters) (length modes));
-        state = λ q. let z : _≡_ {A = ℕ} 0 1 = cc q in absurd (omega arith);
+        letters-written = rw (k .no) refl;
+        modes-written = rw (k .no) refl;
+        judged = k .judged;
+        state = λ q. absurd (true≢false (cc q));
       }
 
   -- accepted: the word, its modes and their counts
   module _ (e : readRefusal r cells up down (length letters) (length modes) .number ≡ 0) where
     pub checked : ReadChecked r cells up down (length letters) (length modes)
-    checked = read-checked-of r cells up down (length letters) (length modes) e
+    checked = Calls.checked (read-call r cells up down (length letters) (length modes)) e
 
     module _ (word : List ℕ) (lettered : word ≡ wordOf r up down cells) where
       -- what the modes' writing asks
@@ -68,18 +65,16 @@ module _ (r : Road) (cells : List ℕ) (up down : ℕ) (letters modes : List ℕ
         )
 
         pub done : (c : Counts) → c ≡ tallied ms → Reads r cells up down letters word modes ms (reading Done c)
-        unfolding readAnswer readLetters readModes readRefusal
+        unfolding readAnswer readLetters readModes
         done c counted =
-            let yes-it-is : eqb (readRefusal r cells up down (length letters) (length modes) .number) 0 ≡ true = eq-eqb _ 0 e in
-            let nothing : readRefusal r cells up down (length letters) (length modes) ≡ passed =
-            nothing-refused (readRows r cells up down (length letters) (length modes)) tt e in
+            let k = Calls.accepts (read-call r cells up down (length letters) (length modes)) e in
             let counts : c ≡ tallied (modesOf (wordOf r up down cells)) = counted ∙ ap tallied modes-are in
             record {
-              answer = rw yes-it-is (ap (reading Done) counts);
-              number = sym (ap (λ (g : Refusal). g .number) nothing);
-              place = sym (ap (λ (g : Refusal). g .place) nothing);
-              letters-written = rw yes-it-is lettered;
-              modes-written = rw yes-it-is modes-are;
-              judged = rw nothing at (read-judged r cells up down (length letters) (length modes));
+              answer = rw (k .yes) (ap (reading Done) counts);
+              number = sym (ap (λ (g : Refusal). g .number) (k .nothing));
+              place = sym (ap (λ (g : Refusal). g .place) (k .nothing));
+              letters-written = rw (k .yes) lettered;
+              modes-written = rw (k .yes) modes-are;
+              judged = k .judged;
               state = λ q. read-state r cells up down (length letters) (length modes) checked word ms c lettered moded counted;
             }

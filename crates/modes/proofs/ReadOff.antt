@@ -5,18 +5,17 @@ use mathlib.Core.List.{List}
 use Prim.Native.Nat.{ℕ, _+_, _≤_}
 use native.Mathlib.Omega.{arith}
 use lib.ListN.{length}
-use borrow.Author.Tests.{eq-eqb}
 use Rattle.road.specs.Ceilings.{cellsCeiling}
 use Rattle.road.specs.Judgement.{Accepted}
 use Rattle.road.specs.declared.Road.{Road}
-use Rattle.road.specs.declared.refusal.Refusal.{Refusal}
+use Rattle.road.proofs.Calls.{accepts-checked}
 use Rattle.modes.specs.Words.{legal, upstreamOf, downstreamOf, cellsOf}
 use Rattle.modes.specs.Reading.{readAnswer, ReadChecked}
 use Rattle.modes.specs.LegalWordsCounted.{ReadOff}
 use Rattle.modes.specs.declared.reading.ReadAnswer.the-variants.{Done}
 use Rattle.modes.specs.declared.reading.StateReading.{StateReading}
 use Rattle.modes.proofs.Occurs.{occurs}
-use Rattle.modes.proofs.ReadJudging.{read-checked-passes}
+use Rattle.modes.proofs.ReadJudging.{read-call}
 
 -- from 1 cell on, up to the ceiling, every legal word is what the reading writes of a state that it accepts, on every accepted road
 module _ (r : Road) (ok : Accepted r) (word : List ℕ) (allowed : legal word ≡ true) (low : 2 ≤ length word) (high : length word ≤ cellsCeiling + 1) where
@@ -42,8 +41,7 @@ module _ (r : Road) (ok : Accepted r) (word : List ℕ) (allowed : legal word �
     own = occurs r ok word allowed (omega arith) .same;
     checked = state-accepted;
     written = λ letters next-letters modes next-modes a reads l m.
-        let passes = read-checked-passes r (cellsOf r word) (upstreamOf r word) (downstreamOf r word) (length word) (length (cellsOf r word)) state-accepted in
-        let none = eq-eqb _ 0 (ap (λ (f : Refusal). f .number) passes) in
+        let none = accepts-checked (read-call r (cellsOf r word) (upstreamOf r word) (downstreamOf r word) (length word) (length (cellsOf r word))) state-accepted in
         let made : a .answer ≡ Done = ap (λ (s : StateReading). s .answer) (rw (l, m, none) at (reads .answer)) in
         (made, reads .state made .word ∙ occurs r ok word allowed (omega arith) .same);
   }

@@ -1,7 +1,7 @@
 -- What a reading says of its state, from what it hands back of a checked input.
 use mathlib.Core.Path.{_≡_, refl}
 use mathlib.Core.List.{List}
-use Prim.Native.Nat.{ℕ, _≤_}
+use Prim.Native.Nat.{ℕ}
 use native.Mathlib.Numerals.{add-one}
 use lib.ListN.{length}
 use Rattle.road.specs.declared.Road.{Road}

@@ -19,7 +19,7 @@ use Rattle.scheme.specs.Rounded.{roundStep}
 use Rattle.scheme.specs.Sums.{Below}
 use Rattle.scheme.specs.Word.{wordOf}
 use Rattle.scheme.proofs.Ahead.{ahead-below}
-use Rattle.scheme.proofs.Distance.{whole, exactStep-one}
+use Rattle.scheme.proofs.Laws.{whole, exactStep-one}
 use Rattle.scheme.proofs.Promises.{round-near-cell}
 use Rattle.modes.specs.Words.{illegalPair, offends}
 use Rattle.modes.specs.Modes.{modeOf, leftFlow, rightFlow, terms, dot, rowValue, rowNumerators}
@@ -95,7 +95,7 @@ module _ (r : Road) (ok : Accepted r) where
   rows-advance : (i left down : ℕ) (xs : List ℕ) → down ≤ r .jam → Below (r .jam) xs
       → rowNumerators r left down (wordOf r left down xs) xs
       ≡ map pos (advance (r .divisor) (whole r) i (numerator r left (ahead down xs)) down xs)
-  unfolding rowNumerators advance whole ahead
+  unfolding rowNumerators advance ahead
   rows-advance i left down [] g h = refl
   rows-advance i left down (x ∷ xs) g h =
       let ahead-high = ahead-below (r .jam) down 0 xs (λ k. h (suc k)) g in
@@ -105,7 +105,7 @@ module _ (r : Road) (ok : Accepted r) where
   -- a state's own word gives the exact step
   pub rows-exact : (up down : ℕ) (xs : List ℕ) → down ≤ r .jam → Below (r .jam) xs
       → rowNumerators r up down (wordOf r up down xs) xs ≡ map pos (exactStep r 1 up down xs)
-  unfolding stepped entering whole
+  unfolding stepped entering
   rows-exact up down xs g h = rw exactStep-one (rows-advance 1 up down xs g h)
 
   -- and D times a rounded new density differs from its row's value by less than D

@@ -1,19 +1,19 @@
 -- Row 12 of the table, alone and below one end pair's: as the code works it, what it says where it does not refuse, and what its place means.
 use mathlib.Core.Path.{_≡_, _∙_, refl, sym, ap}
 use mathlib.Core.Bool.{true, false, not}
-use mathlib.Core.List.{List, [], _∷_, _++_}
+use mathlib.Core.List.{List, [], _∷_}
 use Prim.Native.Nat.{ℕ, _+_, _≤_, _<_}
 use native.Mathlib.Omega.{arith}
-use lib.Dec.{T, eqb, lit<}
+use lib.Dec.{eqb}
 use lib.ListN.{length, getD}
 use borrow.Author.Tests.{eq-eqb, ne-eqb, eqb-true, eqb-false, not-true, not-false}
-use Rattle.road.specs.Table.{Row, row, judge, rising}
 use Rattle.road.specs.declared.Road.{Road}
-use Rattle.road.proofs.Table.{row-returned-below, Passing, passing-append}
+use Rattle.road.specs.declared.refusal.Refusal.{Refusal}
+use Rattle.road.proofs.Table.{Passing, _&_}
 use Rattle.road.proofs.Choice.{or-left, or-right}
-use Rattle.checks.specs.Values.{pairRows}
+use Rattle.checks.specs.Values.{firstAbove, anyAbove}
 use Rattle.checks.proofs.Rows.{pair-passes}
-use Rattle.checks.proofs.Places.{pair-placed}
+use Rattle.checks.proofs.Places.{values-placed}
 use Rattle.flux.specs.Face.{letterD}
 use Rattle.modes.specs.Words.{firstOffence, legal}
 use Rattle.modes.specs.Judging.{badWord, wordPlace, pairWordRows}
@@ -65,24 +65,18 @@ module _ (n : ℕ) (word : List ℕ) where
           let other : firstOffence letterD word ≡ length word → ⊥ = eqb-false _ _ (not-true _ (bad-legal n word long _ refl ∙ e)) in
           omega (arith, first-bound letterD word)
 
-  -- the same of the row, where it was returned
-  word-returned : (m k p : ℕ) → row (badWord n word) m (wordPlace n word) ≡ row true k p → WordPlaced n word p
-  word-returned m k p e =
-      let same : wordPlace n word ≡ p = ap (λ (r : Row). r .place) e in
-      rw same at (word-placed (ap (λ (r : Row). r .condition) e))
-
 module _ (r : Road) (cells : List ℕ) (up down : ℕ) (word : List ℕ) where
   -- the rows of one end pair and a word, where no density is above jam and the word is legal
   pub pair-word-passes : ((i : ℕ) → getD cells i 0 ≤ r .jam) → up ≤ r .jam → down ≤ r .jam → length word ≡ length cells + 1 → legal word ≡ true
       → Passing (pairWordRows r cells up down word)
-  pair-word-passes c u d long ok =
-      passing-append (pairRows r cells up down) (row (badWord (length cells) word) 12 (wordPlace (length cells) word) ∷ [])
-      (pair-passes r cells up down c u d) (word-passes (length cells) word long ok, tt)
+  pair-word-passes c u d long ok = pair-passes r cells up down c u d (word-passes (length cells) word long ok & tt)
 
-  -- the places of a table with these rows last
-  pub pair-word-placed : (above : List Row) → T (rising 0 (above ++ pairWordRows r cells up down word))
-      → PairWordPlaced r cells up down word (judge (above ++ pairWordRows r cells up down word))
-  pair-word-placed above t = record {
-    values = pair-placed r cells up down above (row (badWord (length cells) word) 12 (wordPlace (length cells) word) ∷ []) t;
-    face = λ e. word-returned (length cells) word 12 _ _ (row-returned-below above (pairWordRows r cells up down word) t 3 (lit< tt) e);
+  -- the places of a call with these rows, as they were returned
+  pub pair-word-placed : (f : Refusal) → (f .number ≡ 9 → (anyAbove (r .jam) cells ≡ true) × (firstAbove (r .jam) cells + 1 ≡ f .place))
+      → (f .number ≡ 10 → (anyAbove (r .jam) (up ∷ []) ≡ true) × (firstAbove (r .jam) (up ∷ []) ≡ f .place))
+      → (f .number ≡ 11 → (anyAbove (r .jam) (down ∷ []) ≡ true) × (firstAbove (r .jam) (down ∷ []) ≡ f .place))
+      → (f .number ≡ 12 → (badWord (length cells) word ≡ true) × (wordPlace (length cells) word ≡ f .place)) → PairWordPlaced r cells up down word f
+  pair-word-placed f nine ten eleven twelve = record {
+    values = values-placed r cells (up ∷ []) (down ∷ []) f nine ten eleven;
+    face = λ e. let (holds, same) = twelve e in rw same at (word-placed (length cells) word holds);
   }

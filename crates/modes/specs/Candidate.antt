@@ -46,9 +46,14 @@ abbrev pub estimatePlace : ℕ → Float → Float → ℕ
 estimatePlace j left own = pick (badEstimate j left) 1 (pick (badEstimate j own) 2 3)
 
 -- rows 13, a mode outside 1 to 7, and 14
+abbrev pub modeRow : ℕ → Row
+modeRow mode = row (outside 1 7 mode) 13 0
+
+abbrev pub estimatesRow : Road → Float → Float → Float → Row
+estimatesRow r left own right = row (badEstimates (r .jam) left own right) 14 (estimatePlace (r .jam) left own)
+
 abbrev pub estimateRows : Road → ℕ → Float → Float → Float → List Row
-estimateRows r mode left own right =
-    row (outside 1 7 mode) 13 0 ∷ row (badEstimates (r .jam) left own right) 14 (estimatePlace (r .jam) left own) ∷ []
+estimateRows r mode left own right = modeRow mode ∷ estimatesRow r left own right ∷ []
 
 -- "candidate 1–4, 13, 14"
 abbrev pub candidateRows : Road → ℕ → Float → Float → Float → List Row

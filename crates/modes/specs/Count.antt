@@ -14,8 +14,11 @@ use Rattle.modes.specs.declared.counting.CountAnswer.{CountAnswer}
 use Rattle.modes.specs.declared.counting.CountAnswer.the-variants.{Done, Refused}
 
 -- 15: cells above its ceiling
+abbrev pub countRow : ℕ → Row
+countRow n = row (ltb countCeiling n) 15 0
+
 abbrev pub countRows : ℕ → List Row
-countRows n = row (ltb countCeiling n) 15 0 ∷ []
+countRows n = countRow n ∷ []
 
 unfoldable pub countRefusal : ℕ → Refusal
 countRefusal n = judge (countRows n)

@@ -10,8 +10,7 @@ use Rattle.road.specs.Table.{Row, row, judge}
 use Rattle.road.specs.Judgement.{roadRows}
 use Rattle.road.specs.declared.Road.{Road}
 use Rattle.road.specs.declared.refusal.Refusal.{Refusal}
-use Rattle.checks.specs.Lists.{badCells, badOutput}
-use Rattle.checks.specs.Values.{pairRows}
+use Rattle.checks.specs.Rows.{cellsRow, outputRow, outputsRow, pairRows}
 use Rattle.flux.specs.Face.{letterD}
 use Rattle.modes.specs.Words.{firstOffence, legal}
 
@@ -23,13 +22,16 @@ badWord n word = or (not (eqb (length word) (n + 1))) (not (legal word))
 abbrev pub wordPlace : ℕ → List ℕ → ℕ
 wordPlace n word = pick (eqb (length word) (n + 1)) (firstOffence letterD word) (n + 1)
 
+abbrev pub wordRow : ℕ → List ℕ → Row
+wordRow n word = row (badWord n word) 12 (wordPlace n word)
+
 -- rows 9 to 12 of a call with one end pair and a word
 abbrev pub pairWordRows : Road → List ℕ → ℕ → ℕ → List ℕ → List Row
-pairWordRows r cells up down word = pairRows r cells up down ++ (row (badWord (length cells) word) 12 (wordPlace (length cells) word) ∷ [])
+pairWordRows r cells up down word = pairRows r cells up down ++ (wordRow (length cells) word ∷ [])
 
 -- "reading 1–5 and 8–11": both outputs judged by 8, n+1 letters and n modes
 abbrev pub readListRows : ℕ → ℕ → ℕ → List Row
-readListRows n letters modes = row (badCells n) 5 0 ∷ row (or (badOutput (n + 1) letters) (badOutput n modes)) 8 0 ∷ []
+readListRows n letters modes = cellsRow n ∷ outputsRow (n + 1) letters n modes ∷ []
 
 abbrev pub readShapeRows : Road → ℕ → ℕ → ℕ → List Row
 readShapeRows r n letters modes = roadRows r ++ readListRows n letters modes
@@ -42,7 +44,7 @@ readRefusal r cells up down letters modes = judge (readRows r cells up down lett
 
 -- "fit 1–5 and 9–12"
 abbrev pub fitShapeRows : Road → ℕ → List Row
-fitShapeRows r n = roadRows r ++ (row (badCells n) 5 0 ∷ [])
+fitShapeRows r n = roadRows r ++ (cellsRow n ∷ [])
 
 abbrev pub fitRows : Road → List ℕ → ℕ → ℕ → List ℕ → List Row
 fitRows r cells up down word = fitShapeRows r (length cells) ++ pairWordRows r cells up down word
@@ -52,7 +54,7 @@ fitRefusal r cells up down word = judge (fitRows r cells up down word)
 
 -- "row prediction 1–5 and 8–12"
 abbrev pub predictListRows : ℕ → ℕ → List Row
-predictListRows n out = row (badCells n) 5 0 ∷ row (badOutput n out) 8 0 ∷ []
+predictListRows n out = cellsRow n ∷ outputRow n out ∷ []
 
 abbrev pub predictShapeRows : Road → ℕ → ℕ → List Row
 predictShapeRows r n out = roadRows r ++ predictListRows n out

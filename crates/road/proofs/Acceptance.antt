@@ -1,31 +1,20 @@
--- An accepted road is one that nothing refuses, and the road's number is the lowest that applies.
+-- An accepted road is one that nothing refuses.
 use mathlib.Core.Path.{_≡_}
 use mathlib.Core.Bool.{false}
 use Prim.Native.Nat.{_-_, _*_}
 use native.Mathlib.Omega.{arith}
-use lib.Dec.{lit<, eqb}
+use lib.Dec.{eqb}
 use borrow.Author.Tests.{eqb-true, eq-eqb, not-false}
 use Rattle.road.specs.Ceilings.{divisorCeiling, jamCeiling}
-use Rattle.road.specs.Table.{Lowest, passed}
+use Rattle.road.specs.Table.{passed}
 use Rattle.road.specs.Judgement.{outside, badDivisor, badSpeeds, badDensities, unbalanced, roadRows, roadRefusal, Accepted}
 use Rattle.road.specs.declared.Road.{Road}
-use Rattle.road.proofs.Table.{the-rule, none-holds, Passing, all-pass}
+use Rattle.road.proofs.Table.{none-holds, _&_, all-pass}
 use Rattle.road.proofs.Choice.{or-left, or-right, neither, from-low, to-high, inside}
 
--- the number that the road's judgement returns applies, and no lower one does
-pub road-lowest : (r : Road) → Lowest (roadRows r) (roadRefusal r)
-unfolding roadRefusal
-road-lowest r = the-rule (roadRows r) tt
-
--- a road that nothing refuses is accepted
-pub accepted-of : (r : Road) → roadRefusal r .number ≡ 0 → Accepted r
-unfolding roadRefusal
-accepted-of r e =
-    let no = none-holds (roadRows r) tt e in
-    let one : badDivisor r ≡ false = no 0 (lit< tt) in
-    let two : badSpeeds r ≡ false = no 1 (lit< tt) in
-    let three : badDensities r ≡ false = no 2 (lit< tt) in
-    let four : unbalanced r ≡ false = no 3 (lit< tt) in
+-- a road of which none of its four rows holds is accepted
+pub accepted-by : (r : Road) → badDivisor r ≡ false → badSpeeds r ≡ false → badDensities r ≡ false → unbalanced r ≡ false → Accepted r
+accepted-by r one two three four =
     let p = or-left (outside 1 (r .divisor) (r .free)) (outside 1 (r .divisor) (r .wave)) two in
     let q = or-right (outside 1 (r .divisor) (r .free)) (outside 1 (r .divisor) (r .wave)) two in
     let j = or-left (outside 2 jamCeiling (r .jam)) (outside 1 (r .jam - 1) (r .critical)) three in
@@ -46,23 +35,24 @@ accepted-of r e =
       balance = eqb-true (r .free * r .critical) (r .wave * (r .jam - r .critical)) (not-false (eqb (r .free * r .critical) (r .wave * (r .jam - r .critical))) four);
     }
 
--- none of the rows of an accepted road holds, so that it is not refused
-pub road-passing : (r : Road) → Accepted r → Passing (roadRows r)
-road-passing r a = (
-  inside 1 divisorCeiling (r .divisor) (a .divisor-low) (a .divisor-high),
-  (
-    neither (outside 1 (r .divisor) (r .free)) (outside 1 (r .divisor) (r .wave))
-        (inside 1 (r .divisor) (r .free) (a .free-low) (a .free-high))
-        (inside 1 (r .divisor) (r .wave) (a .wave-low) (a .wave-high)),
-    (
-      neither (outside 2 jamCeiling (r .jam)) (outside 1 (r .jam - 1) (r .critical))
-          (inside 2 jamCeiling (r .jam) (a .jam-low) (a .jam-high))
-          (inside 1 (r .jam - 1) (r .critical) (a .critical-low) (omega arith)),
-      (simp (eq-eqb (r .free * r .critical) (r .wave * (r .jam - r .critical)) (a .balance)), tt),
-    ),
-  ),
-)
+pub accepted-of : (r : Road) → roadRefusal r .number ≡ 0 → Accepted r
+unfolding roadRefusal
+accepted-of r e = let no = none-holds (roadRows r) tt e in accepted-by r (no 1) (no 2) (no 3) (no 4)
+
+-- and the other way round, with what is known of the rows below
+pub road-passes : (r : Road) → Accepted r → {Below : Type 0} → Below
+    → (badDivisor r ≡ false) × ((badSpeeds r ≡ false) × ((badDensities r ≡ false) × ((unbalanced r ≡ false) × Below)))
+road-passes r a below =
+    inside 1 divisorCeiling (r .divisor) (a .divisor-low) (a .divisor-high)
+    & neither (outside 1 (r .divisor) (r .free)) (outside 1 (r .divisor) (r .wave))
+    (inside 1 (r .divisor) (r .free) (a .free-low) (a .free-high))
+    (inside 1 (r .divisor) (r .wave) (a .wave-low) (a .wave-high))
+    & neither (outside 2 jamCeiling (r .jam)) (outside 1 (r .jam - 1) (r .critical))
+    (inside 2 jamCeiling (r .jam) (a .jam-low) (a .jam-high))
+    (inside 1 (r .jam - 1) (r .critical) (a .critical-low) (omega arith))
+    & (simp (eq-eqb (r .free * r .critical) (r .wave * (r .jam - r .critical)) (a .balance)))
+    & below
 
 pub accepted-passes : (r : Road) → Accepted r → roadRefusal r ≡ passed
 unfolding roadRefusal
-accepted-passes r a = all-pass (roadRows r) (road-passing r a)
+accepted-passes r a = all-pass (roadRows r) (road-passes r a tt)

@@ -4,3 +4,4 @@ pub mod Choice
 pub mod Table
 pub mod Acceptance
 pub mod Parts
+pub mod Calls

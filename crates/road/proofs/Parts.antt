@@ -1,18 +1,10 @@
--- A table in two parts, the road's rows first: what the first part leaves to know, for every call with a road.
+-- A table in two parts: what the first part leaves to know, for every call whose shape is judged first.
 use mathlib.Core.Path.{_≡_, _∙_, sym, ap}
 use mathlib.Core.List.{List, _++_}
 use native.Mathlib.Nat.{pos-of-ne-zero}
 use Rattle.road.specs.Table.{Row, passed, judgeBelow, judge}
-use Rattle.road.specs.Judgement.{roadRows, roadRefusal, Accepted}
-use Rattle.road.specs.declared.Road.{Road}
 use Rattle.road.specs.declared.refusal.Refusal.{Refusal}
-use Rattle.road.proofs.Table.{judge-append, first-part-stands, first-part-passes}
-use Rattle.road.proofs.Acceptance.{accepted-of}
-
--- a road whose rows stand first in a table that refuses nothing is accepted
-pub road-first : (r : Road) (more : List Row) → judge (roadRows r ++ more) .number ≡ 0 → Accepted r
-unfolding roadRefusal
-road-first r more e = accepted-of r (first-part-passes (roadRows r) more e)
+use Rattle.road.proofs.Table.{judge-append, first-part-stands}
 
 -- a refusal by the first part is the whole table's
 pub part-stands : (rows more : List Row) (f : Refusal) → f ≡ judge rows → (f .number ≡ 0 → ⊥) → f ≡ judge (rows ++ more)

@@ -31,8 +31,20 @@ abbrev pub unbalanced : Road → Bool
 unbalanced r = not (eqb (r .free * r .critical) (r .wave * (r .jam - r .critical)))
 
 -- the rows "Road" of the table: all report place 0
+abbrev pub divisorRow : Road → Row
+divisorRow r = row (badDivisor r) 1 0
+
+abbrev pub speedsRow : Road → Row
+speedsRow r = row (badSpeeds r) 2 0
+
+abbrev pub densitiesRow : Road → Row
+densitiesRow r = row (badDensities r) 3 0
+
+abbrev pub balanceRow : Road → Row
+balanceRow r = row (unbalanced r) 4 0
+
 abbrev pub roadRows : Road → List Row
-roadRows r = row (badDivisor r) 1 0 ∷ row (badSpeeds r) 2 0 ∷ row (badDensities r) 3 0 ∷ row (unbalanced r) 4 0 ∷ []
+roadRows r = divisorRow r ∷ speedsRow r ∷ densitiesRow r ∷ balanceRow r ∷ []
 
 -- the lowest of them that applies
 unfoldable pub roadRefusal : Road → Refusal

@@ -1,4 +1,5 @@
-// The refusal, and the rule that the lowest number that applies is returned (document 01, "Where each refusal is made").
+// The refusal, and the rule of its table: the first row that holds is returned (document 01, "Where each refusal is
+// made").
 ghost use mathlib.Core.Path.{_≡_};
 ghost use Rattle.road.specs.Table.{passed, orIf};
 

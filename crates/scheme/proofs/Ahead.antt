@@ -6,7 +6,7 @@ use native.Mathlib.Nat.{not-suc-le-zero, le-of-suc-le-suc, lt-of-not-le}
 use native.Mathlib.Decide.{decLt}
 use lib.ListN.{length, getD, drop, drop-of-length-le}
 use lib.Seq.{drop-cons}
-use Rattle.scheme.specs.Advance.{ahead}
+use Rattle.scheme.specs.Advance.{ahead, entering}
 
 pub ahead-is : (d : ℕ) {x : List ℕ} {a : ℕ} {rest : List ℕ} → x ≡ a ∷ rest → ahead d x ≡ a
 unfolding ahead
@@ -16,6 +16,10 @@ pub ahead-first : (d : ℕ) (x : List ℕ) → 0 < length x → ahead d x ≡ ge
 unfolding ahead
 ahead-first d [] h = absurd (not-suc-le-zero h)
 ahead-first d (a ∷ x) h = refl
+
+pub enters : (F : ℕ → ℕ → ℕ → ℕ) (u d : ℕ) (x : List ℕ) → 0 < length x → entering F u d x ≡ F 0 u (getD x 0 0)
+unfolding entering
+enters F u d x h = ap (F 0 u) (ahead-first d x h)
 
 pub ahead-at : (d i : ℕ) (x : List ℕ) → i < length x → ahead d (drop i x) ≡ getD x i 0
 ahead-at d i x h = ahead-is d (drop-cons x i 0 h)

@@ -4,11 +4,11 @@ use mathlib.Core.List.{List, [], _∷_}
 use Prim.Native.Nat.{ℕ, suc, _+_, _*_}
 use native.Mathlib.Nat.{mul-zero, mul-add}
 use native.Mathlib.Omega.{arith}
-use Rattle.flux.specs.Law.{Law}
 use Rattle.scheme.specs.Advance.{ahead, advance, outflow, entering, leaving, stepped}
 use Rattle.scheme.specs.Sums.{sum}
+use Rattle.scheme.specs.Partners.{Lawful}
 
-module _ (m j c : ℕ) (F : ℕ → ℕ → ℕ → ℕ) (laws : (i : ℕ) → Law m j c (F i)) where
+module _ {m j c : ℕ} {F : ℕ → ℕ → ℕ → ℕ} (laws : Lawful m j c F) where
   pub advance-balance : (i w d : ℕ) (xs : List ℕ) → sum (advance m F i w d xs) + outflow F i w d xs ≡ m * sum xs + w
   unfolding advance outflow sum
   advance-balance i w d [] = omega (arith, mul-zero m)

@@ -1,5 +1,5 @@
 -- A rounded run is one that moves each face's whole units, and an exact run one that moves each face's flow.
-use mathlib.Core.Path.{_≡_, _∙_, refl, sym, ap}
+use mathlib.Core.Path.{_≡_, _∙_, sym}
 use mathlib.Core.List.{List, [], _∷_}
 use Prim.Native.Nat.{ℕ, suc, _*_, _≤_, zero-le}
 use native.Mathlib.Nat.{le-refl, suc-inj}
@@ -14,12 +14,12 @@ use Rattle.scheme.specs.Settling.{after}
 use Rattle.scheme.specs.Exact.{exactFlow, exactStep, exactRun}
 use Rattle.scheme.specs.ByFaces.{unitsOver, StepByFaces, RunByFaces, none, step, flowOver, ExactStepByFaces, ExactRunByFaces, exact-none, exact-step}
 use Rattle.scheme.proofs.Faces.{flow-at, enters-first, leaves-last}
-use Rattle.scheme.proofs.Runs.{roundStep-length, exactStep-length}
+use Rattle.scheme.proofs.Shape.{stepped-length}
 use Rattle.scheme.proofs.Promises.{round-cell, exact-cell, after-run}
 
 module _ (r : Road) where
   over-face : (u d : ℕ) (xs : List ℕ) (k : ℕ) → k ≤ length xs → getD (faceFlows (moved r) u d xs) k 0 ≡ unitsOver r u d xs k
-  unfolding unitsOver moved
+  unfolding unitsOver
   over-face u d xs k h = rw (add-one k) (flow-at (moved r) u d xs k h)
 
   enters : (u d : ℕ) (xs : List ℕ) → entering (moved r) u d xs ≡ unitsOver r u d xs 0
@@ -31,7 +31,7 @@ module _ (r : Road) where
   module _ (ok : Accepted r) where
     step-by-faces : (u d : ℕ) (xs : List ℕ) → StepByFaces r u d xs (roundStep r u d xs)
     step-by-faces u d xs = record {
-      long = roundStep-length r u d xs;
+      long = stepped-length 1 (moved r) u d xs;
       cell = λ k h.
           let out = over-face u d xs (suc k) h in
           let in-flow = over-face u d xs k (omega arith) in
@@ -58,13 +58,13 @@ module _ (r : Road) where
 
   -- the exact scheme likewise
   over-face-exactly : (z u d : ℕ) (xs : List ℕ) (k : ℕ) → k ≤ length xs → getD (faceFlows (exactFlow r z) (z * u) (z * d) xs) k 0 ≡ flowOver r z u d xs k
-  unfolding flowOver exactFlow
+  unfolding flowOver
   over-face-exactly z u d xs k h = rw (add-one k) (flow-at (exactFlow r z) (z * u) (z * d) xs k h)
 
   module _ (ok : Accepted r) where
     pub exact-step-by-faces : (z u d : ℕ) (xs : List ℕ) → ExactStepByFaces r z u d xs (exactStep r z u d xs)
     exact-step-by-faces z u d xs = record {
-      long = exactStep-length r z u d xs;
+      long = stepped-length (r .divisor) (exactFlow r z) (z * u) (z * d) xs;
       cell = λ k h.
           let out = over-face-exactly z u d xs (suc k) h in
           let in-flow = over-face-exactly z u d xs k (omega arith) in

@@ -5,9 +5,9 @@ use Prim.Native.Nat.{ℕ, suc, _+_, _*_, _≤_, min, max, zero-le}
 use native.Mathlib.Nat.{le-refl, mul-add, min-le-left, min-le-right, le-max-left, le-max-right}
 use native.Mathlib.Omega.{arith}
 use lib.ListN.{length}
-use Rattle.flux.specs.Law.{Law}
 use Rattle.scheme.specs.Advance.{ahead, outflow, entering, leaving, stepped}
 use Rattle.scheme.specs.Sums.{sum, gap, distance}
+use Rattle.scheme.specs.Partners.{Lawful}
 use Rattle.scheme.proofs.Lists.{Pairs, none, one, Any, paired}
 use Rattle.scheme.proofs.Balance.{stepped-balance}
 use Rattle.scheme.proofs.Monotone.{ahead-ordered, stepped-ordered}
@@ -57,7 +57,7 @@ unfolding distance gap sum
 distance-between none none none none = zero-le
 distance-between (one a p) (one b q) (one c r) (one d s) = omega (arith, distance-between p q r s)
 
-module _ (m j c : ℕ) (F : ℕ → ℕ → ℕ → ℕ) (laws : (i : ℕ) → Law m j c (F i)) (u d : ℕ) where
+module _ {m j c : ℕ} {F : ℕ → ℕ → ℕ → ℕ} (laws : Lawful m j c F) (u d : ℕ) where
   -- a fuller road sends no less over its last face, l and l′ being the densities to the list's left
   outflow-ordered : {xs ys : List ℕ} (i l l′ : ℕ) → l ≤ l′ → Pairs _≤_ xs ys
       → outflow F (suc i) (F i l (ahead d xs)) d xs ≤ outflow F (suc i) (F i l′ (ahead d ys)) d ys
@@ -75,7 +75,7 @@ module _ (m j c : ℕ) (F : ℕ → ℕ → ℕ → ℕ) (laws : (i : ℕ) → L
   entering-ordered {xs} {ys} p = laws 0 .down u (ahead d xs) (ahead d ys) (ahead-ordered (le-refl d) p)
 
   step : {xs ys : List ℕ} → Pairs _≤_ xs ys → Pairs _≤_ (stepped m F u d xs) (stepped m F u d ys)
-  step p = stepped-ordered m j c F laws p (le-refl u) (le-refl d)
+  step p = stepped-ordered laws p (le-refl u) (le-refl d)
 
   -- the steps lie between the steps of the lower and of the higher list, whose sums the balance knows
   stepped-nearer : {xs ys : List ℕ} → Pairs Any xs ys → distance (stepped m F u d xs) (stepped m F u d ys) ≤ m * distance xs ys
@@ -86,8 +86,8 @@ module _ (m j c : ℕ) (F : ℕ → ℕ → ℕ → ℕ) (laws : (i : ℕ) → L
       omega (
         arith,
         distance-between (step (b .low-left)) (step (b .low-right)) (step (b .high-left)) (step (b .high-right)),
-        stepped-balance m j c F laws u d l,
-        stepped-balance m j c F laws u d g,
+        stepped-balance laws u d l,
+        stepped-balance laws u d g,
         entering-ordered (b .low-high),
         leaving-ordered (b .low-high),
         ap (λ (s : ℕ). m * s) (sum-higher p),

@@ -1,35 +1,21 @@
--- The distance of the rounded scheme from the exact one, over a step and over a run.
-use mathlib.Core.Path.{_≡_, refl, ap, sym, _∙_}
+-- The distance of a rounded flow from its exact partner, over a step and over a run.
+use mathlib.Core.Path.{_≡_, refl, sym, _∙_}
 use mathlib.Core.List.{List, [], _∷_}
 use Prim.Native.Nat.{ℕ, suc, _+_, _-_, _*_, _^_, _≤_, _<_, zero-le}
 use native.Mathlib.Nat.{one-mul, mul-one, mul-zero, zero-add, mul-add, add-mul, mul-sub, mul-suc, suc-mul, mul-comm, mul-left-comm}
 use native.Mathlib.Nat.{pow-zero, pow-suc, suc-inj, mul-le-mul-left, le-add-right}
 use native.Mathlib.Omega.{arith}
 use lib.ListN.{length}
-use Rattle.road.specs.declared.Road.{Road}
-use Rattle.flux.specs.Law.{Law}
-use Rattle.flux.specs.Face.{numerator, units}
-use Rattle.flux.proofs.Scaling.{scaled-one}
 use Rattle.scheme.specs.Advance.{ahead, advance, entering, stepped}
 use Rattle.scheme.specs.Sums.{gap, distance, times}
-use Rattle.scheme.specs.Rounded.{moved, roundStep, roundRun}
-use Rattle.scheme.specs.Exact.{exactFlow, exactStep, exactRun}
+use Rattle.scheme.specs.Runs.{ran, ranBy, stepAt, scaleOf, ranAt}
+use Rattle.scheme.specs.Partners.{Partners}
 use Rattle.scheme.proofs.Lists.{Pairs, none, one, distance-self, distance-triangle, times-length, times-one, times-times, times-distance}
-use Rattle.scheme.proofs.Runs.{roundStep-length, exactStep-length, exactStep-contraction, power-scale}
-use Rattle.scheme.proofs.Scaling.{exactStep-times}
-
--- the flow numerator over every face
-unfoldable pub whole : Road → ℕ → ℕ → ℕ → ℕ
-whole r face a b = numerator r a b
-
--- at scale 1 the exact flow is the flow numerator
-exactFlow-one : (r : Road) → exactFlow r 1 ≡ whole r
-unfolding exactFlow whole
-exactFlow-one r = ap whole (scaled-one r)
-
-pub exactStep-one : (r : Road) (u d : ℕ) (xs : List ℕ) → exactStep r 1 u d xs ≡ stepped (r .divisor) (whole r) u d xs
-unfolding exactStep
-exactStep-one r u d xs = rw (exactFlow-one, one-mul u, one-mul d)
+use Rattle.scheme.proofs.Shape.{stepped-length}
+use Rattle.scheme.proofs.Range.{out-holds}
+use Rattle.scheme.proofs.Contraction.{stepped-contraction}
+use Rattle.scheme.proofs.Runs.{power-scale}
+use Rattle.scheme.proofs.Scaling.{stepAt-times}
 
 -- k times the first is off the second by less than k
 abbrev pub Near : ℕ → ℕ → ℕ → Type 0
@@ -51,86 +37,74 @@ cell-near k x n f w v h e p q = rw one-mul
 one-more : (n t e s : ℕ) → n * suc t * e * s ≡ n * t * e * s + n * e * s
 one-more n t e s = simp (mul-suc, add-mul)
 
-module _ (r : Road)
-    (roundLaws : (i : ℕ) → Law 1 (r .jam) (r .critical) (moved r i))
-    (exactLaws : (z i : ℕ) → Law (r .divisor) (z * r .jam) (z * r .critical) (exactFlow r z i))
-    (homog : (k z i a b : ℕ) → exactFlow r (k * z) i (k * a) (k * b) ≡ k * exactFlow r z i a b)
-    (spread : (f g : ℕ) → f + units r g * r .divisor < g + units r f * r .divisor + r .divisor) where
-  whole-send : (i a b : ℕ) → whole r i a b ≤ r .divisor * a
-  whole-send i a b = rw exactFlow-one at (exactLaws 1 i .send a b)
-
+module _ {D j c : ℕ} {units : ℕ → ℕ} {F : ℕ → ℕ → ℕ → ℕ} {G : ℕ → ℕ → ℕ → ℕ → ℕ} (laws : Partners D j c units F G) where
   -- along the list, n being the first face's flow: each cell is off by the difference of two rounding errors
-  advance-near : (i n d : ℕ) (xs : List ℕ)
-      → Pairs (Near (r .divisor)) (advance 1 (moved r) i (units r n) d xs) (advance (r .divisor) (whole r) i n d xs)
-  unfolding advance moved whole
+  advance-near : (i n d : ℕ) (xs : List ℕ) → Pairs (Near D) (advance 1 F i (units n) d xs) (advance D (G 1) i n d xs)
+  unfolding advance
   advance-near i n d [] = none
   advance-near i n d (x ∷ xs) =
-      let f : ℕ = numerator r x (ahead d xs) in
-      let moves : units r f ≤ x = omega (arith, roundLaws i .send x (ahead d xs)) in
-      one (cell-near (r .divisor) x n f (units r n) (units r f) moves (whole-send i x (ahead d xs)) (spread n f) (spread f n))
-      (advance-near (suc i) f d xs)
+      let f : ℕ = G 1 i x (ahead d xs) in
+      let is : F i x (ahead d xs) ≡ units f = laws .whole i x (ahead d xs) in
+      rw is
+      (one (cell-near D x n f (units n) (units f) (rw is at (out-holds (laws .rounded) i x (ahead d xs))) (laws .exact 1 i .send x (ahead d xs)) (laws .spread n f) (laws .spread f n))
+      (advance-near (suc i) f d xs))
 
   -- the rounding of one step, cell by cell
-  pub step-near : (u d : ℕ) (xs : List ℕ) → Pairs (Near (r .divisor)) (roundStep r u d xs) (exactStep r 1 u d xs)
-  unfolding roundStep stepped entering moved whole
-  step-near u d xs = rw exactStep-one (advance-near 1 (numerator r u (ahead d xs)) d xs)
+  pub step-near : (u d : ℕ) (xs : List ℕ) → Pairs (Near D) (stepped 1 F u d xs) (stepAt D G 1 u d xs)
+  unfolding stepped entering
+  step-near u d xs = rw (one-mul u, one-mul d, laws .whole 0 u (ahead d xs)) (advance-near 1 (G 1 0 u (ahead d xs)) d xs)
 
   -- and summed
-  pub step-rounding : (u d : ℕ) (xs : List ℕ)
-      → distance (times (r .divisor) (roundStep r u d xs)) (exactStep r 1 u d xs) ≤ length xs * (r .divisor - 1)
-  step-rounding u d xs = rw roundStep-length at (near-distance (r .divisor) (step-near u d xs))
+  pub step-rounding : (u d : ℕ) (xs : List ℕ) → distance (times D (stepped 1 F u d xs)) (stepAt D G 1 u d xs) ≤ length xs * (D - 1)
+  step-rounding u d xs = rw stepped-length at (near-distance D (step-near u d xs))
 
   -- the same at scale z
   step-rounding-scaled : (z u d : ℕ) (ys : List ℕ)
-      → distance (times (r .divisor * z) (roundStep r u d ys)) (exactStep r z u d (times z ys)) ≤ length ys * (r .divisor - 1) * z
+      → distance (times (D * z) (stepped 1 F u d ys)) (stepAt D G z u d (times z ys)) ≤ length ys * (D - 1) * z
   step-rounding-scaled z u d ys =
-      let exact : exactStep r z u d (times z ys) ≡ times z (exactStep r 1 u d ys) = rw mul-one at (exactStep-times r homog z 1 u d ys) in
-      rw (exact, mul-comm (r .divisor) z, times-times z (r .divisor), times-distance, mul-comm (length ys * (r .divisor - 1)) z)
-      (mul-le-mul-left z (step-rounding u d ys))
+      let exact : stepAt D G z u d (times z ys) ≡ times z (stepAt D G 1 u d ys) = rw mul-one at (stepAt-times G (laws .homogeneous) D z 1 u d ys) in
+      rw (exact, mul-comm D z, times-times z D, times-distance, mul-comm (length ys * (D - 1)) z) (mul-le-mul-left z (step-rounding u d ys))
 
   -- one step of both from states that may differ: the exact step of the rounded state stands between
-  pub step-distance : (z u d : ℕ) (xs ys : List ℕ) → length xs ≡ length ys
-      → distance (times (r .divisor * z) (roundStep r u d ys)) (exactStep r z u d xs)
-      ≤ length ys * (r .divisor - 1) * z + r .divisor * distance (times z ys) xs
+  step-distance : (z u d : ℕ) (xs ys : List ℕ) → length xs ≡ length ys
+      → distance (times (D * z) (stepped 1 F u d ys)) (stepAt D G z u d xs) ≤ length ys * (D - 1) * z + D * distance (times z ys) xs
   step-distance z u d xs ys e =
       let same : length (times z ys) ≡ length xs = times-length z ys ∙ sym e in
-      let mid : List ℕ = exactStep r z u d (times z ys) in
       omega (
         arith,
-        distance-triangle (times (r .divisor * z) (roundStep r u d ys)) mid (exactStep r z u d xs)
-            (simp (times-length, roundStep-length, exactStep-length)) (simp (exactStep-length, same)),
+        distance-triangle (times (D * z) (stepped 1 F u d ys)) (stepAt D G z u d (times z ys)) (stepAt D G z u d xs)
+            (simp (times-length, stepped-length)) (simp (stepped-length, same)),
         step-rounding-scaled z u d ys,
-        exactStep-contraction r exactLaws z u d (times z ys) xs same,
+        stepped-contraction (laws .exact z) (z * u) (z * d) (times z ys) xs same,
       )
 
-  -- the run: each step adds its rounding, and multiplies by D what was there
-  pub run-distance : (z : ℕ) (ups downs xs ys : List ℕ) → length ups ≡ length downs → length xs ≡ length ys
-      → r .divisor * distance (times (r .divisor ^ length ups * z) (roundRun r ups downs ys)) (exactRun r z ups downs xs)
-      ≤ r .divisor ^ suc (length ups) * distance (times z ys) xs + length ys * length ups * (r .divisor - 1) * (r .divisor ^ length ups * z)
-  unfolding roundRun exactRun
-  run-distance z [] downs xs ys e h = rw (pow-suc, pow-zero, one-mul z, one-mul (r .divisor)) (le-add-right _ _)
-  run-distance z (u ∷ ups) [] xs ys e h = absurd (omega arith)
-  run-distance z (u ∷ ups) (d ∷ downs) xs ys e h =
-      let D : ℕ = r .divisor in
-      let t : ℕ = length ups in
-      let n : ℕ = length ys in
-      let g : ℕ = distance (times z ys) xs in
-      let xs′ : List ℕ = exactStep r z u d xs in
-      let ys′ : List ℕ = roundStep r u d ys in
-      let long : length xs′ ≡ length ys′ = simp (exactStep-length, roundStep-length, h) in
-      omega (
-        arith,
-        rw (power-scale, roundStep-length) at (run-distance (D * z) ups downs xs′ ys′ (suc-inj e) long),
-        mul-le-mul-left (D ^ suc t) (step-distance z u d xs ys h),
-        mul-add (D ^ suc t) (n * (D - 1) * z) (D * g),
-        mul-left-comm (D ^ suc t) (n * (D - 1)) z,
-        power-scale r (suc t) g,
-        one-more n t (D - 1) (D ^ suc t * z),
-      )
+-- the run: each step adds its rounding, and multiplies by D what was there
+pub run-distance : {D j c : ℕ} {units : ℕ → ℕ} {F : ℕ → ℕ → ℕ → ℕ → ℕ} {G : ℕ → ℕ → ℕ → ℕ → ℕ → ℕ} → ((t : ℕ) → Partners D j c units (F t) (G t))
+    → (z : ℕ) (ups downs xs ys : List ℕ) → length ups ≡ length downs → length xs ≡ length ys
+    → D * distance (times (D ^ length ups * z) (ranBy 1 F ups downs ys)) (ranAt D G z ups downs xs)
+    ≤ D ^ suc (length ups) * distance (times z ys) xs + length ys * length ups * (D - 1) * (D ^ length ups * z)
+unfolding ran scaleOf
+run-distance {D} laws z [] downs xs ys e h = rw (pow-suc, pow-zero, one-mul z, one-mul D) (le-add-right _ _)
+run-distance laws z (u ∷ ups) [] xs ys e h = absurd (omega arith)
+run-distance {D} {F = F} {G = G} laws z (u ∷ ups) (d ∷ downs) xs ys e h =
+    let t : ℕ = length ups in
+    let n : ℕ = length ys in
+    let g : ℕ = distance (times z ys) xs in
+    let xs′ : List ℕ = stepAt D (G 0) z u d xs in
+    let ys′ : List ℕ = stepped 1 (F 0) u d ys in
+    omega (
+      arith,
+      rw (power-scale, stepped-length) at (run-distance (λ t. laws (suc t)) (D * z) ups downs xs′ ys′ (suc-inj e) (simp (stepped-length, h))),
+      mul-le-mul-left (D ^ suc t) (step-distance (laws 0) z u d xs ys h),
+      mul-add (D ^ suc t) (n * (D - 1) * z) (D * g),
+      mul-left-comm (D ^ suc t) (n * (D - 1)) z,
+      power-scale D (suc t) g,
+      one-more n t (D - 1) (D ^ suc t * z),
+    )
 
-  -- from one start, at scale 1
-  pub run-rounding : (ups downs xs : List ℕ) → length ups ≡ length downs
-      → r .divisor * distance (times (r .divisor ^ length ups) (roundRun r ups downs xs)) (exactRun r 1 ups downs xs)
-      ≤ length xs * length ups * (r .divisor - 1) * r .divisor ^ length ups
-  run-rounding ups downs xs e =
-      omega (arith, simp (mul-one, times-one, distance-self, mul-zero, zero-add) at (run-distance 1 ups downs xs xs e refl))
+-- from one start, at scale 1
+pub run-rounding : {D j c : ℕ} {units : ℕ → ℕ} {F : ℕ → ℕ → ℕ → ℕ → ℕ} {G : ℕ → ℕ → ℕ → ℕ → ℕ → ℕ} → ((t : ℕ) → Partners D j c units (F t) (G t))
+    → (ups downs xs : List ℕ) → length ups ≡ length downs
+    → D * distance (times (D ^ length ups) (ranBy 1 F ups downs xs)) (ranAt D G 1 ups downs xs) ≤ length xs * length ups * (D - 1) * D ^ length ups
+run-rounding laws ups downs xs e =
+    omega (arith, simp (mul-one, times-one, distance-self, mul-zero, zero-add) at (run-distance laws 1 ups downs xs xs e refl))

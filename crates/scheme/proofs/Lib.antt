@@ -5,6 +5,7 @@ pub mod Range
 pub mod Balance
 pub mod Monotone
 pub mod Contraction
+pub mod Inflow
 pub mod Runs
 pub mod Scaling
 pub mod Distance

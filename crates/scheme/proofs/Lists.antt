@@ -1,11 +1,11 @@
--- Facts on lists of numbers: two lists side by side, their order, sums, distances and multiples.
+-- Facts on lists of numbers: two lists side by side, their order, distances and multiples.
 use mathlib.Core.Path.{_≡_, refl, ap, sym}
 use mathlib.Core.List.{List, [], _∷_}
 use Prim.Native.Nat.{ℕ, zero, suc, _+_, _-_, _*_, _≤_, zero-le}
 use native.Mathlib.Nat.{suc-inj, mul-zero, mul-add, mul-sub, mul-assoc, one-mul}
 use native.Mathlib.Omega.{arith}
 use lib.ListN.{length, getD}
-use Rattle.scheme.specs.Sums.{sum, gap, distance, times, NoMore}
+use Rattle.scheme.specs.Sums.{gap, distance, times, NoMore}
 
 -- two lists of one length, R holding of each cell of the first and the same cell of the second
 pub data Pairs (R : ℕ → ℕ → Type 0) : List ℕ → List ℕ → Type 0 where
@@ -60,16 +60,11 @@ pub distance-triangle : (xs ys zs : List ℕ) → length xs ≡ length ys → le
     → distance xs zs ≤ distance xs ys + distance ys zs
 distance-triangle xs ys zs p q = triangle (paired xs ys p) (paired ys zs q)
 
--- multiples: their length, sum, scale and distance
+-- multiples: their length, scale and distance
 pub times-length : (k : ℕ) (xs : List ℕ) → length (times k xs) ≡ length xs
 unfolding times
 times-length k [] = refl
 times-length k (x ∷ xs) = ap suc (times-length k xs)
-
-pub times-sum : (k : ℕ) (xs : List ℕ) → sum (times k xs) ≡ k * sum xs
-unfolding times sum
-times-sum k [] = sym (mul-zero k)
-times-sum k (x ∷ xs) = omega (arith, times-sum k xs, mul-add k x (sum xs))
 
 pub times-one : (xs : List ℕ) → times 1 xs ≡ xs
 unfolding times

@@ -6,8 +6,8 @@ use native.Mathlib.Decide.{decLe}
 use native.Mathlib.Omega.{arith}
 use Rattle.flux.specs.Law.{Law}
 use Rattle.scheme.specs.Advance.{ahead, advance, entering, stepped}
-use Rattle.scheme.specs.Sums.{NoMore}
-use Rattle.scheme.proofs.Lists.{Pairs, none, one, ordered, no-more}
+use Rattle.scheme.specs.Partners.{Lawful}
+use Rattle.scheme.proofs.Lists.{Pairs, none, one}
 
 -- what stands ahead is ordered too, the ghost cells being so
 pub ahead-ordered : {d d′ : ℕ} {xs ys : List ℕ} → d ≤ d′ → Pairs _≤_ xs ys → ahead d xs ≤ ahead d′ ys
@@ -16,7 +16,7 @@ ahead-ordered h none = h
 ahead-ordered h (one p t) = p
 
 -- a cell's own density: a fuller cell ends no emptier, between a left face G and a right face H
-module _ (m j c : ℕ) (G H : ℕ → ℕ → ℕ) (lawG : Law m j c G) (lawH : Law m j c H) (l r : ℕ) where
+module _ {m j c : ℕ} {G H : ℕ → ℕ → ℕ} (lawG : Law m j c G) (lawH : Law m j c H) (l r : ℕ) where
   own-free : (o o′ : ℕ) → o ≤ o′ → o′ ≤ c → m * o + G l o + H o′ r ≤ m * o′ + G l o′ + H o r
   own-free o o′ h f =
       omega (arith, lawG .free-in l o o′ h f, lawH .free-out o o′ r h f, mul-sub m o′ o, mul-le-mul-left m h)
@@ -33,7 +33,7 @@ module _ (m j c : ℕ) (G H : ℕ → ℕ → ℕ) (lawG : Law m j c G) (lawH : 
       go (no f) (yes e) = own-full o o′ e h
       go (no f) (no e) = omega (arith, own-free o c (omega arith) (omega arith), own-full c o′ (omega arith) (omega arith))
 
-module _ (m j c : ℕ) (F : ℕ → ℕ → ℕ → ℕ) (laws : (i : ℕ) → Law m j c (F i)) where
+module _ {m j c : ℕ} {F : ℕ → ℕ → ℕ → ℕ} (laws : Lawful m j c F) where
   -- along the list, l and l′ being the densities to its left
   advance-ordered : {d d′ : ℕ} {xs ys : List ℕ} (i l l′ : ℕ) → l ≤ l′ → d ≤ d′ → Pairs _≤_ xs ys
       → Pairs _≤_ (advance m F (suc i) (F i l (ahead d xs)) d xs) (advance m F (suc i) (F i l′ (ahead d′ ys)) d′ ys)
@@ -45,7 +45,7 @@ module _ (m j c : ℕ) (F : ℕ → ℕ → ℕ → ℕ) (laws : (i : ℕ) → L
       let cell : m * x + F i l x - F (suc i) x r ≤ m * y + F i l′ y - F (suc i) y r′ =
       omega (
         arith,
-        own-cell m j c (F i) (F (suc i)) (laws i) (laws (suc i)) l r x y h,
+        own-cell (laws i) (laws (suc i)) l r x y h,
         laws i .up l l′ y hl,
         laws (suc i) .down y r r′ (ahead-ordered hd t),
         laws (suc i) .send x r,
@@ -56,7 +56,3 @@ module _ (m j c : ℕ) (F : ℕ → ℕ → ℕ → ℕ) (laws : (i : ℕ) → L
       → Pairs _≤_ (stepped m F u d xs) (stepped m F u′ d′ ys)
   unfolding stepped entering
   stepped-ordered {u} {u′} p hu hd = advance-ordered 0 u u′ hu hd p
-
-  pub stepped-monotone : {u u′ d d′ : ℕ} {xs ys : List ℕ} → NoMore xs ys → u ≤ u′ → d ≤ d′
-      → NoMore (stepped m F u d xs) (stepped m F u′ d′ ys)
-  stepped-monotone h hu hd = no-more (stepped-ordered (ordered h) hu hd)

@@ -6,21 +6,24 @@ use native.Mathlib.Omega.{arith}
 use lib.ListN.{length, getD, replicate}
 use Rattle.road.specs.Judgement.{Accepted}
 use Rattle.road.specs.declared.Road.{Road}
+use Rattle.flux.proofs.Scaling.{homogeneous}
 use Rattle.scheme.specs.Advance.{faceFlows}
 use Rattle.scheme.specs.Sums.{sum, gap, distance, times, Below, NoMore}
+use Rattle.scheme.specs.Runs.{iterated, scaleOf}
 use Rattle.scheme.specs.Rounded.{moved, roundStep, roundRun, entered, left}
 use Rattle.scheme.specs.Exact.{exactFlow, exactStep, exactRun}
 use Rattle.scheme.specs.Settling.{after, settleSteps, settleCells}
-use Rattle.scheme.proofs.Laws.{round-laws, exact-laws, spread, homog}
+use Rattle.scheme.proofs.Laws.{partners}
+use Rattle.scheme.proofs.Shape.{stepped-length}
 use Rattle.scheme.proofs.Range.{stepped-cell}
-use Rattle.scheme.proofs.Runs.{roundRun-length, roundRun-below, roundRun-balance, roundRun-monotone, roundRun-contraction, exactRun-below}
+use Rattle.scheme.proofs.Runs.{ran-length, run-below, run-balance, run-monotone, run-contraction, scaled-below}
 use Rattle.scheme.proofs.Lists.{pairs-at}
-use Rattle.scheme.proofs.Scaling.{exactStep-times, exactRun-times}
+use Rattle.scheme.proofs.Scaling.{stepAt-times, ranAt-times}
 use Rattle.scheme.proofs.Distance.{step-near, step-rounding, run-rounding}
 
 -- the k steps of a settling run are the run over k copies of its end pair
 pub after-run : (r : Road) (up down k : ℕ) (xs : List ℕ) → after r up down k xs ≡ roundRun r (replicate k up) (replicate k down) xs
-unfolding after roundRun
+unfolding iterated roundRun
 after-run r up down zero xs = refl
 after-run r up down (suc k) xs = after-run r up down k (roundStep r up down xs)
 
@@ -29,36 +32,41 @@ module _ (r : Road) (ok : Accepted r) where
   pub round-cell : (u d : ℕ) (xs : List ℕ) (k : ℕ) → k < length xs
       → getD (roundStep r u d xs) k 0 + getD (faceFlows (moved r) u d xs) (suc k) 0
       ≡ 1 * getD xs k 0 + getD (faceFlows (moved r) u d xs) k 0
-  unfolding roundStep faceFlows
-  round-cell u d xs k h = stepped-cell 1 (r .jam) (r .critical) (moved r) (round-laws r ok) u d xs k h
+  unfolding faceFlows
+  round-cell = stepped-cell (partners r ok .rounded)
 
   pub exact-cell : (z u d : ℕ) (xs : List ℕ) (k : ℕ) → k < length xs
       → getD (exactStep r z u d xs) k 0 + getD (faceFlows (exactFlow r z) (z * u) (z * d) xs) (suc k) 0
       ≡ r .divisor * getD xs k 0 + getD (faceFlows (exactFlow r z) (z * u) (z * d) xs) k 0
-  unfolding exactStep faceFlows
-  exact-cell z u d xs k h = stepped-cell (r .divisor) (z * r .jam) (z * r .critical) (exactFlow r z) (exact-laws r ok z) (z * u) (z * d) xs k h
+  unfolding faceFlows
+  exact-cell z u d = stepped-cell (partners r ok .exact z) (z * u) (z * d)
 
   -- every density stays from 0 to jam, in the exact scheme from 0 to Z × jam
   pub round-range : (ups downs xs : List ℕ) → Below (r .jam) xs → Below (r .jam) (roundRun r ups downs xs)
-  round-range = roundRun-below r (round-laws r ok)
+  unfolding roundRun
+  round-range = run-below (λ t. partners r ok .rounded)
 
   pub exact-range : (z : ℕ) (ups downs xs : List ℕ) → length ups ≡ length downs → Below (z * r .jam) xs
       → Below (r .divisor ^ length ups * (z * r .jam)) (exactRun r z ups downs xs)
-  exact-range = exactRun-below r (exact-laws r ok)
+  unfolding exactRun
+  exact-range = scaled-below (r .jam) (r .critical) (λ t. partners r ok .exact)
 
   -- units at the start plus entered equal units at the end plus left
   pub round-balance : (ups downs xs : List ℕ) → sum xs + entered r ups downs xs ≡ sum (roundRun r ups downs xs) + left r ups downs xs
-  round-balance = roundRun-balance r (round-laws r ok)
+  unfolding roundRun entered left
+  round-balance = run-balance (λ t. partners r ok .rounded)
 
   -- start and ends nowhere higher give densities nowhere higher
   pub round-monotone : {ups ups′ downs downs′ xs ys : List ℕ} → NoMore ups ups′ → NoMore downs downs′ → NoMore xs ys
       → NoMore (roundRun r ups downs xs) (roundRun r ups′ downs′ ys)
-  round-monotone = roundRun-monotone r (round-laws r ok)
+  unfolding roundRun
+  round-monotone = run-monotone (λ t. partners r ok .rounded)
 
   -- with equal ends two runs come no further apart
   pub round-contraction : (ups downs xs ys : List ℕ) → length xs ≡ length ys
       → distance (roundRun r ups downs xs) (roundRun r ups downs ys) ≤ distance xs ys
-  round-contraction = roundRun-contraction r (round-laws r ok)
+  unfolding roundRun
+  round-contraction = run-contraction (λ t. partners r ok .rounded)
 
   -- D × a rounded new cell differs from the exact step of the same state by less than D
   pub round-near-cell : (u d : ℕ) (xs : List ℕ) (k : ℕ)
@@ -66,20 +74,21 @@ module _ (r : Road) (ok : Accepted r) where
   unfolding gap
   round-near-cell u d xs k =
       let low = ok .divisor-low in
-      omega (arith, pairs-at (omega arith) (step-near r (round-laws r ok) (exact-laws r ok) (homog r) (spread r ok) u d xs) k)
+      omega (arith, pairs-at (omega arith) (step-near (partners r ok) u d xs) k)
 
   -- summed over the cells, D × the rounded new cells differ from the exact step of the same state by at most n × (D − 1)
   pub round-near-step : (u d : ℕ) (xs : List ℕ)
       → distance (times (r .divisor) (roundStep r u d xs)) (exactStep r 1 u d xs) ≤ length xs * (r .divisor - 1)
-  round-near-step = step-rounding r (round-laws r ok) (exact-laws r ok) (homog r) (spread r ok)
+  round-near-step = step-rounding (partners r ok)
 
   -- D times the summed distance from the exact scheme, at scale D to the power T, is at most n × T × (D − 1) at that scale
   pub round-near : (ups downs xs : List ℕ) → length ups ≡ length downs
       → r .divisor * distance (times (r .divisor ^ length ups) (roundRun r ups downs xs)) (exactRun r 1 ups downs xs)
       ≤ length xs * length ups * (r .divisor - 1) * r .divisor ^ length ups
-  round-near = run-rounding r (round-laws r ok) (exact-laws r ok) (homog r) (spread r ok)
+  unfolding roundRun exactRun
+  round-near = run-rounding (λ t. partners r ok)
 
-  -- a settling run keeps the balance, the range and, below, the number of cells
+  -- a settling run keeps the balance and the range
   pub after-balance : (up down k : ℕ) (xs : List ℕ)
       → sum xs + entered r (replicate k up) (replicate k down) xs ≡ sum (after r up down k xs) + left r (replicate k up) (replicate k down) xs
   after-balance up down k xs = rw (after-run r up down k xs) (round-balance (replicate k up) (replicate k down) xs)
@@ -90,6 +99,15 @@ module _ (r : Road) (ok : Accepted r) where
       let k = settleSteps r up down t xs in
       rw (after-run r up down k xs) (round-range (replicate k up) (replicate k down) xs h)
 
+-- both schemes and a settling run keep the number of cells
+pub roundRun-length : (r : Road) (ups downs xs : List ℕ) → length (roundRun r ups downs xs) ≡ length xs
+unfolding roundRun
+roundRun-length r = ran-length (λ t. roundStep r) (λ t. stepped-length 1 (moved r))
+
+pub exactRun-length : (r : Road) (z : ℕ) (ups downs xs : List ℕ) → length (exactRun r z ups downs xs) ≡ length xs
+unfolding exactRun
+exactRun-length r z = ran-length (λ t. exactStep r (scaleOf (r .divisor) z t)) (λ t u d. stepped-length (r .divisor) _ _ _)
+
 pub settle-length : (r : Road) (up down t : ℕ) (xs : List ℕ) → length (settleCells r up down t xs) ≡ length xs
 unfolding settleCells
 settle-length r up down t xs =
@@ -98,7 +116,8 @@ settle-length r up down t xs =
 
 -- the scale does not matter: k times the densities, at k times the scale, give k times the result, so that the whole-number form is document 01's fractions times Z
 pub exact-scale : (r : Road) (k z u d : ℕ) (xs : List ℕ) → exactStep r (k * z) u d (times k xs) ≡ times k (exactStep r z u d xs)
-exact-scale r = exactStep-times r (homog r)
+exact-scale r = stepAt-times (exactFlow r) (λ k z i. homogeneous k z r) (r .divisor)
 
 pub exact-run-scale : (r : Road) (k z : ℕ) (ups downs xs : List ℕ) → exactRun r (k * z) ups downs (times k xs) ≡ times k (exactRun r z ups downs xs)
-exact-run-scale r = exactRun-times r (homog r)
+unfolding exactRun
+exact-run-scale r = ranAt-times (λ t. exactFlow r) (λ t k z i. homogeneous k z r) (r .divisor)

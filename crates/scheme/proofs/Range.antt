@@ -2,15 +2,15 @@
 use mathlib.Core.Path.{_≡_}
 use mathlib.Core.List.{List, [], _∷_}
 use Prim.Native.Nat.{ℕ, zero, suc, _+_, _-_, _*_, _≤_, _<_, zero-le}
-use native.Mathlib.Nat.{mul-sub, mul-le-mul-left, not-suc-le-zero, le-of-suc-le-suc}
+use native.Mathlib.Nat.{one-mul, mul-sub, mul-le-mul-left, not-suc-le-zero, le-of-suc-le-suc}
 use native.Mathlib.Omega.{arith}
 use lib.ListN.{length, getD}
-use Rattle.flux.specs.Law.{Law}
 use Rattle.scheme.specs.Advance.{ahead, advance, flows, entering, stepped}
 use Rattle.scheme.specs.Sums.{Below}
+use Rattle.scheme.specs.Partners.{Lawful}
 use Rattle.scheme.proofs.Shape.{flows-first}
 
-module _ (m j c : ℕ) (F : ℕ → ℕ → ℕ → ℕ) (laws : (i : ℕ) → Law m j c (F i)) where
+module _ {m j c : ℕ} {F : ℕ → ℕ → ℕ → ℕ} (laws : Lawful m j c F) where
   -- no difference is cut off at 0, for no cell sends more than it holds
   pub advance-cell : (i w d : ℕ) (xs : List ℕ) (k : ℕ) → k < length xs
       → getD (advance m F i w d xs) k 0 + getD (flows F i w d xs) (suc k) 0 ≡ m * getD xs k 0 + getD (flows F i w d xs) k 0
@@ -37,3 +37,14 @@ module _ (m j c : ℕ) (F : ℕ → ℕ → ℕ → ℕ) (laws : (i : ℕ) → L
   pub stepped-below : (u d : ℕ) (xs : List ℕ) → Below j xs → Below (m * j) (stepped m F u d xs)
   unfolding stepped entering
   stepped-below u d xs h = advance-below 1 (entering F u d xs) d xs h (laws 0 .room u (ahead d xs))
+
+-- with multiplier 1 no face moves more than the upstream cell holds, nor more than the downstream one has room for
+module _ {j c : ℕ} {F : ℕ → ℕ → ℕ → ℕ} (laws : Lawful 1 j c F) where
+  pub out-holds : (i a b : ℕ) → F i a b ≤ a
+  out-holds i a b = rw one-mul at (laws i .send a b)
+
+  pub in-room : (i a b : ℕ) → b ≤ j → b + F i a b ≤ j
+  in-room i a b h = omega (arith, laws i .room a b)
+
+  pub steps-below : (u d : ℕ) (xs : List ℕ) → Below j xs → Below j (stepped 1 F u d xs)
+  steps-below u d xs h i = rw one-mul at (stepped-below laws u d xs h i)

@@ -1,12 +1,11 @@
--- Scaling: the exact scheme on k times the densities, at k times the scale, gives k times the result.
+-- Scaling: a homogeneous flow on k times the densities, at k times the scale, gives k times the result.
 use mathlib.Core.Path.{_≡_, refl}
 use mathlib.Core.List.{List, [], _∷_}
 use Prim.Native.Nat.{ℕ, suc, _+_, _-_, _*_}
 use native.Mathlib.Nat.{mul-sub, mul-add, mul-assoc, mul-left-comm}
-use Rattle.road.specs.declared.Road.{Road}
 use Rattle.scheme.specs.Advance.{ahead, advance, entering, stepped}
 use Rattle.scheme.specs.Sums.{times}
-use Rattle.scheme.specs.Exact.{exactFlow, exactStep, exactRun}
+use Rattle.scheme.specs.Runs.{ran, stepAt, scaleOf, ranAt}
 
 pub ahead-times : (k d : ℕ) (xs : List ℕ) → ahead (k * d) (times k xs) ≡ k * ahead d xs
 unfolding ahead times
@@ -32,15 +31,15 @@ module _ (m k : ℕ) (F G : ℕ → ℕ → ℕ → ℕ) (homog : (i a b : ℕ) 
   unfolding stepped entering
   stepped-times u d xs = rw (flow-times 0 u d xs) (advance-times 1 (F 0 u (ahead d xs)) d xs)
 
-module _ (r : Road) (homog : (k z i a b : ℕ) → exactFlow r (k * z) i (k * a) (k * b) ≡ k * exactFlow r z i a b) where
-  pub exactStep-times : (k z u d : ℕ) (xs : List ℕ) → exactStep r (k * z) u d (times k xs) ≡ times k (exactStep r z u d xs)
-  unfolding exactStep
-  exactStep-times k z u d xs = rw (mul-assoc k z u, mul-assoc k z d)
-      (stepped-times (r .divisor) k (exactFlow r z) (exactFlow r (k * z)) (homog k z) (z * u) (z * d) xs)
+pub stepAt-times : (G : ℕ → ℕ → ℕ → ℕ → ℕ) → ((k z i a b : ℕ) → G (k * z) i (k * a) (k * b) ≡ k * G z i a b)
+    → (m k z u d : ℕ) (xs : List ℕ) → stepAt m G (k * z) u d (times k xs) ≡ times k (stepAt m G z u d xs)
+stepAt-times G homog m k z u d xs = rw (mul-assoc k z u, mul-assoc k z d) (stepped-times m k (G z) (G (k * z)) (homog k z) (z * u) (z * d) xs)
 
-  pub exactRun-times : (k z : ℕ) (ups downs xs : List ℕ) → exactRun r (k * z) ups downs (times k xs) ≡ times k (exactRun r z ups downs xs)
-  unfolding exactRun
-  exactRun-times k z [] downs xs = refl
-  exactRun-times k z (u ∷ ups) [] xs = refl
-  exactRun-times k z (u ∷ ups) (d ∷ downs) xs =
-      rw (exactStep-times, mul-left-comm (r .divisor) k z) (exactRun-times k (r .divisor * z) ups downs (exactStep r z u d xs))
+pub ranAt-times : (G : ℕ → ℕ → ℕ → ℕ → ℕ → ℕ) → ((t k z i a b : ℕ) → G t (k * z) i (k * a) (k * b) ≡ k * G t z i a b)
+    → (m k z : ℕ) (ups downs xs : List ℕ) → ranAt m G (k * z) ups downs (times k xs) ≡ times k (ranAt m G z ups downs xs)
+unfolding ran scaleOf
+ranAt-times G homog m k z [] downs xs = refl
+ranAt-times G homog m k z (u ∷ ups) [] xs = refl
+ranAt-times G homog m k z (u ∷ ups) (d ∷ downs) xs =
+    rw (stepAt-times (G 0) (homog 0) m k z u d xs, mul-left-comm m k z)
+    (ranAt-times (λ t. G (suc t)) (λ t. homog (suc t)) m k (m * z) ups downs (stepAt m (G 0) z u d xs))

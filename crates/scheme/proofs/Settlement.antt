@@ -7,43 +7,32 @@ use native.Mathlib.Nat.{not-suc-le-zero, le-of-suc-le-suc, sub-zero, sub-eq-zero
 use native.Mathlib.Numerals.{add-one}
 use native.Mathlib.Omega.{arith}
 use lib.ListN.{length}
-use Rattle.road.specs.Judgement.{Accepted}
 use Rattle.road.specs.declared.Road.{Road}
 use Rattle.scheme.specs.Sums.{Below}
+use Rattle.scheme.specs.Runs.{iterated}
 use Rattle.scheme.specs.Rounded.{roundStep}
-use Rattle.scheme.specs.Settling.{still, after, settles, settleSteps, settleCells, LeastStill}
+use Rattle.scheme.specs.Settling.{still, finds, stepsTo, Least, settles, settleSteps, settleCells, LeastStill}
 use Rattle.scheme.specs.Calls.{SettledTo}
-use Rattle.scheme.proofs.Laws.{round-laws}
-use Rattle.scheme.proofs.Runs.{roundStep-length, roundStep-below}
 
-module _ (r : Road) (up down : ℕ) where
+module _ (S : List ℕ → List ℕ) (T : List ℕ → Bool) where
   -- one step more, at the end or at the start
-  after-step : (k : ℕ) (xs : List ℕ) → roundStep r up down (after r up down k xs) ≡ after r up down (suc k) xs
-  unfolding after
-  after-step zero xs = refl
-  after-step (suc k) xs = after-step k (roundStep r up down xs)
+  iterated-more : (k : ℕ) (xs : List ℕ) → S (iterated S k xs) ≡ iterated S (suc k) xs
+  unfolding iterated
+  iterated-more zero xs = refl
+  iterated-more (suc k) xs = iterated-more k (S xs)
 
   -- one turn of the search, by the test
-  module _ (t : ℕ) (xs : List ℕ) where
-    steps-still : still r up down xs ≡ true → settleSteps r up down (suc t) xs ≡ 0
-    unfolding settleSteps
-    steps-still e = rw e
+  ends-here : (t : ℕ) (xs : List ℕ) → T xs ≡ true → (finds S T (suc t) xs ≡ true) × (stepsTo S T (suc t) xs ≡ 0)
+  unfolding finds stepsTo
+  ends-here t xs e = (rw e, rw e)
 
-    steps-on : still r up down xs ≡ false → settleSteps r up down (suc t) xs ≡ suc (settleSteps r up down t (roundStep r up down xs))
-    unfolding settleSteps
-    steps-on e = rw e
+  goes-on : (t : ℕ) (xs : List ℕ) → T xs ≡ false → (finds S T (suc t) xs ≡ finds S T t (S xs)) × (stepsTo S T (suc t) xs ≡ suc (stepsTo S T t (S xs)))
+  unfolding finds stepsTo
+  goes-on t xs e = (rw e, rw e)
 
-    settles-still : still r up down xs ≡ true → settles r up down (suc t) xs ≡ true
-    unfolding settles
-    settles-still e = rw e
-
-    settles-on : still r up down xs ≡ false → settles r up down (suc t) xs ≡ settles r up down t (roundStep r up down xs)
-    unfolding settles
-    settles-on e = rw e
-
-  -- the first step is still
-  found-now : (t : ℕ) (xs : List ℕ) → still r up down xs ≡ true → LeastStill r up down (suc t) xs true 0
-  unfolding after
+  -- the test finds the first state
+  found-now : (t : ℕ) (xs : List ℕ) → T xs ≡ true → Least S T (suc t) xs true 0
+  unfolding iterated
   found-now t xs e = record {
     before = λ j h. absurd (not-suc-le-zero h);
     within = λ q. suc-le-suc zero-le;
@@ -51,94 +40,93 @@ module _ (r : Road) (up down : ℕ) where
     none = λ q. absurd (true≢false q);
   }
 
-  -- or the search goes on from the next state
-  module _ (t : ℕ) (xs : List ℕ) (e : still r up down xs ≡ false) (settled : Bool) (k : ℕ) (rest : LeastStill r up down t (roundStep r up down xs) settled k) where
-    earlier : (j : ℕ) → j < suc k → still r up down (after r up down j xs) ≡ false
-    unfolding after
-    earlier zero h = e
-    earlier (suc j) h = rest .before j (le-of-suc-le-suc h)
+  -- or the search goes on from the next
+  found-later : (t : ℕ) (xs : List ℕ) → T xs ≡ false → (settled : Bool) (k : ℕ) → Least S T t (S xs) settled k → Least S T (suc t) xs settled (suc k)
+  unfolding iterated
+  found-later t xs e settled k rest = record {
+    before = earlier;
+    within = λ q. suc-le-suc (rest .within q);
+    found = rest .found;
+    none = λ q. ap suc (rest .none q);
+  }
+    where
+      earlier : (j : ℕ) → j < suc k → T (iterated S j xs) ≡ false
+      earlier zero h = e
+      earlier (suc j) h = rest .before j (le-of-suc-le-suc h)
 
-    found-later : LeastStill r up down (suc t) xs settled (suc k)
-    unfolding after
-    found-later = record {
-      before = earlier;
-      within = λ q. suc-le-suc (rest .within q);
-      found = rest .found;
-      none = λ q. ap suc (rest .none q);
-    }
-
-  -- the least k below T such that step k+1 is still
-  pub least-still : (t : ℕ) (xs : List ℕ) → LeastStill r up down t xs (settles r up down t xs) (settleSteps r up down t xs)
-  unfolding settles settleSteps
-  least-still zero xs = record {
+  -- the least k below t such that the test finds the state after k steps
+  pub least : (t : ℕ) (xs : List ℕ) → Least S T t xs (finds S T t xs) (stepsTo S T t xs)
+  unfolding finds stepsTo
+  least zero xs = record {
     before = λ j h. absurd (not-suc-le-zero h);
     within = λ e. absurd (false≢true e);
     found = λ e. absurd (false≢true e);
     none = λ e. refl;
   }
-  least-still (suc t) xs = by-test (still r up down xs) refl (least-still t (roundStep r up down xs))
+  least (suc t) xs = by-test (T xs) refl (least t (S xs))
     where
-      by-test : (b : Bool) → still r up down xs ≡ b → LeastStill r up down t (roundStep r up down xs) (settles r up down t (roundStep r up down xs)) (settleSteps r up down t (roundStep r up down xs))
-          → LeastStill r up down (suc t) xs (settles r up down (suc t) xs) (settleSteps r up down (suc t) xs)
-      by-test true e rest = rw (settles-still t xs e, steps-still t xs e) (found-now t xs e)
-      by-test false e rest = rw (settles-on t xs e, steps-on t xs e) (found-later t xs e (settles r up down t (roundStep r up down xs)) (settleSteps r up down t (roundStep r up down xs)) rest)
+      by-test : (b : Bool) → T xs ≡ b → Least S T t (S xs) (finds S T t (S xs)) (stepsTo S T t (S xs))
+          → Least S T (suc t) xs (finds S T (suc t) xs) (stepsTo S T (suc t) xs)
+      by-test true e rest = rw e (found-now t xs e)
+      by-test false e rest = rw e (found-later t xs e (finds S T t (S xs)) (stepsTo S T t (S xs)) rest)
 
--- the loop after k steps, none of which was still
-pub record Searching (r : Road) (up down t : ℕ) (old : List ℕ) (cells : List ℕ) (k : ℕ) : Type 0 where
-  pub long : length cells ≡ length old
-  pub below : Below (r .jam) cells
-  pub reached : cells ≡ after r up down k old
-  pub steps-left : k + settleSteps r up down (t - k) cells ≡ settleSteps r up down t old
-  pub settles-left : settles r up down (t - k) cells ≡ settles r up down t old
+  -- the loop after k steps, none of which was still
+  pub record Searching (j t : ℕ) (old cells : List ℕ) (k : ℕ) : Type 0 where
+    pub long : length cells ≡ length old
+    pub below : Below j cells
+    pub reached : cells ≡ iterated S k old
+    pub steps-left : k + stepsTo S T (t - k) cells ≡ stepsTo S T t old
+    pub finds-left : finds S T (t - k) cells ≡ finds S T t old
 
-module _ (r : Road) (ok : Accepted r) (up down t : ℕ) (old : List ℕ) where
-  pub begins : Below (r .jam) old → Searching r up down t old old 0
-  unfolding after
-  begins h = record {
-    long = refl;
-    below = h;
-    reached = refl;
-    steps-left = rw (sub-zero t) (omega arith);
-    settles-left = rw (sub-zero t) refl;
-  }
+  pub begins : {j : ℕ} (t : ℕ) (old : List ℕ) → Below j old → Searching j t old old 0
+  unfolding iterated
+  begins t old h = record { long = refl; below = h; reached = refl; steps-left = rw (sub-zero t) (omega arith); finds-left = rw (sub-zero t) refl }
 
-  module _ (cells : List ℕ) (k : ℕ) (now : Searching r up down t old cells k) where
-    one-less : k < t → t - k ≡ suc (t - suc k)
-    one-less h = omega arith
+-- the next turn of the loop, of a step that keeps the number of cells and the range
+module _ {S : List ℕ → List ℕ} {T : List ℕ → Bool} {j t : ℕ} {old cells : List ℕ} {k : ℕ} (now : Searching S T j t old cells k) where
+  one-less : k < t → t - k ≡ suc (t - suc k)
+  one-less h = omega arith
 
-    turn : (next : List ℕ) → k < t → still r up down cells ≡ false → next ≡ roundStep r up down cells → Searching r up down t old next (suc k)
-    turn next h e s = record {
-      long = ap length s ∙ roundStep-length r up down cells ∙ now .long;
-      below = rw s (roundStep-below r (round-laws r ok) up down cells (now .below));
-      reached = s ∙ ap (roundStep r up down) (now .reached) ∙ after-step r up down k old;
-      steps-left = rw s (let a = rw (one-less h) at (now .steps-left) in let b = steps-on r up down (t - suc k) cells e in omega arith);
-      settles-left = rw s (sym (settles-on r up down (t - suc k) cells e) ∙ rw (one-less h) at (now .settles-left));
-    }
+  turn : (next : List ℕ) → k < t → T cells ≡ false → next ≡ S cells → length (S cells) ≡ length cells → Below j (S cells) → Searching S T j t old next (suc k)
+  turn next h e s long below =
+      let on = goes-on S T (t - suc k) cells e in
+      record {
+        long = ap length s ∙ long ∙ now .long;
+        below = rw s below;
+        reached = s ∙ ap S (now .reached) ∙ iterated-more S T k old;
+        steps-left = rw s (omega (arith, rw (one-less h) at (now .steps-left), on .1));
+        finds-left = rw s (sym (on .0) ∙ rw (one-less h) at (now .finds-left));
+      }
 
-    pub turns : (next : List ℕ) → k < t → still r up down cells ≡ false → next ≡ roundStep r up down cells → Searching r up down t old next (k + 1)
-    turns = rw (add-one k) turn
+  pub turns : (next : List ℕ) → k < t → T cells ≡ false → next ≡ S cells → length (S cells) ≡ length cells → Below j (S cells) → Searching S T j t old next (k + 1)
+  turns = rw (add-one k) turn
 
+module _ (r : Road) (up down : ℕ) where
+  pub least-still : (t : ℕ) (xs : List ℕ) → LeastStill r up down t xs (settles r up down t xs) (settleSteps r up down t xs)
+  unfolding settles settleSteps
+  least-still = least (roundStep r up down) (still r up down)
+
+  module _ {j t : ℕ} {old cells : List ℕ} {k : ℕ} (now : Searching (roundStep r up down) (still r up down) j t old cells k) where
     -- a still step follows
     pub settled : k < t → still r up down cells ≡ true → SettledTo r up down t old cells record { settled = true; steps = k }
-    unfolding settleCells
+    unfolding settles settleSteps settleCells
     settled h e =
-        let steps : k ≡ settleSteps r up down t old =
-        let a = rw (one-less h) at (now .steps-left) in let b = steps-still r up down (t - suc k) cells e in omega arith
-        in
+        let here = ends-here (roundStep r up down) (still r up down) (t - suc k) cells e in
+        let steps : k ≡ settleSteps r up down t old = omega (arith, rw (one-less now h) at (now .steps-left), here .1) in
         record {
-          cells = now .reached ∙ ap (λ (n : ℕ). after r up down n old) steps;
-          settled = sym (settles-still r up down (t - suc k) cells e) ∙ rw (one-less h) at (now .settles-left);
+          cells = now .reached ∙ ap (λ (n : ℕ). iterated (roundStep r up down) n old) steps;
+          settled = sym (here .0) ∙ rw (one-less now h) at (now .finds-left);
           steps = steps;
         }
 
     -- the horizon is used up
     pub unsettled : t ≤ k → SettledTo r up down t old cells record { settled = false; steps = k }
-    unfolding settleCells settles settleSteps
+    unfolding settles settleSteps settleCells
     unsettled h =
         let none = sub-eq-zero-of-le h in
-        let steps : k ≡ settleSteps r up down t old = let a = rw none at (now .steps-left) in omega arith in
+        let steps : k ≡ settleSteps r up down t old = omega (arith, rw none at (now .steps-left)) in
         record {
-          cells = now .reached ∙ ap (λ (n : ℕ). after r up down n old) steps;
-          settled = rw none at (now .settles-left);
+          cells = now .reached ∙ ap (λ (n : ℕ). iterated (roundStep r up down) n old) steps;
+          settled = rw none at (now .finds-left);
           steps = steps;
         }

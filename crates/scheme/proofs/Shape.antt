@@ -1,4 +1,4 @@
--- A step keeps the number of cells, and works one face more than there are cells.
+-- A step keeps the number of cells.
 use mathlib.Core.Path.{_≡_, refl, ap}
 use mathlib.Core.List.{List, [], _∷_}
 use Prim.Native.Nat.{ℕ, suc}
@@ -15,14 +15,8 @@ module _ (m : ℕ) (F : ℕ → ℕ → ℕ → ℕ) where
   unfolding stepped
   stepped-length u d xs = advance-length 1 (entering F u d xs) d xs
 
-module _ (F : ℕ → ℕ → ℕ → ℕ) where
-  pub flows-length : (i w d : ℕ) (xs : List ℕ) → length (flows F i w d xs) ≡ suc (length xs)
-  unfolding flows
-  flows-length i w d [] = refl
-  flows-length i w d (x ∷ xs) = ap suc (flows-length (suc i) (F i x (ahead d xs)) d xs)
-
-  -- the first of the flows is the one given
-  pub flows-first : (i w d : ℕ) (xs : List ℕ) → getD (flows F i w d xs) 0 0 ≡ w
-  unfolding flows
-  flows-first i w d [] = refl
-  flows-first i w d (x ∷ xs) = refl
+-- the first of the flows is the one given
+pub flows-first : (F : ℕ → ℕ → ℕ → ℕ) (i w d : ℕ) (xs : List ℕ) → getD (flows F i w d xs) 0 0 ≡ w
+unfolding flows
+flows-first F i w d [] = refl
+flows-first F i w d (x ∷ xs) = refl

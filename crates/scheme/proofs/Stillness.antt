@@ -20,10 +20,11 @@ use Rattle.scheme.specs.Sums.{sum, Below}
 use Rattle.scheme.specs.Rounded.{moved, roundStep}
 use Rattle.scheme.specs.Word.{wordOf}
 use Rattle.scheme.specs.Settling.{sameWord, keepsLetters, still}
-use Rattle.scheme.proofs.Laws.{round-laws}
-use Rattle.scheme.proofs.Ahead.{ahead-first, ahead-at}
+use Rattle.scheme.proofs.Laws.{partners}
+use Rattle.scheme.proofs.Ahead.{ahead-at, enters}
 use Rattle.scheme.proofs.Balance.{stepped-balance}
-use Rattle.scheme.proofs.InPlace.{advance-cell, in-room}
+use Rattle.scheme.proofs.Range.{in-room}
+use Rattle.scheme.proofs.InPlace.{advance-cell}
 
 -- the comparison of the faces of a list, between old and new densities to its left
 abbrev compared : Road → ℕ → ℕ → ℕ → ℕ → ℕ → List ℕ → Bool
@@ -56,20 +57,14 @@ same-test a b c d f g = by-case (ℕ-discrete a b)
 module _ (r : Road) (ok : Accepted r) (up down : ℕ) (x : List ℕ) where
   -- the sum of the cells is kept exactly when as much leaves as enters
   sum-kept : eqb (entering (moved r) up down x) (leaving (moved r) up down x) ≡ eqb (sum x) (sum (roundStep r up down x))
-  unfolding roundStep
   sum-kept =
-      let balance = rw one-mul at (stepped-balance 1 (r .jam) (r .critical) (moved r) (round-laws r ok) up down x) in
+      let balance = rw one-mul at (stepped-balance (partners r ok .rounded) up down x) in
       same-test (entering (moved r) up down x) (leaving (moved r) up down x) (sum x) (sum (stepped 1 (moved r) up down x))
       (λ e. omega arith) (λ e. omega arith)
 
-  -- the flow over face 0, as the code works it
-  pub first-enters : 0 < length x → {first : ℕ} → first ≡ units r (numerator r up (getD x 0 0)) → first ≡ entering (moved r) up down x
-  unfolding entering moved
-  first-enters pos e = e ∙ ap (λ (b : ℕ). units r (numerator r up b)) (sym (ahead-first down x pos))
-
-  -- and that over face n, which the last cell sends
+  -- the flow over face n, which the last cell sends
   outflow-last : (i inflow : ℕ) (xs : List ℕ) → 0 < length xs → units r (numerator r (getD xs (length xs - 1) 0) down) ≡ outflow (moved r) i inflow down xs
-  unfolding outflow moved ahead
+  unfolding outflow ahead
   outflow-last i inflow [] h = absurd (omega arith)
   outflow-last i inflow (a ∷ []) h = refl
   outflow-last i inflow (a ∷ b ∷ xs) h =
@@ -84,7 +79,7 @@ module _ (r : Road) (ok : Accepted r) (up down : ℕ) (x : List ℕ) where
   module _ (pos : 0 < length x) {first last : ℕ} (e : first ≡ units r (numerator r up (getD x 0 0)))
       (q : last ≡ units r (numerator r (getD x (length x - 1) 0) down)) where
     sums : eqb first last ≡ eqb (sum x) (sum (roundStep r up down x))
-    sums = ap₂ eqb (first-enters pos e) (last-leaves pos q) ∙ sum-kept
+    sums = ap₂ eqb (e ∙ sym (enters (moved r) up down x pos)) (last-leaves pos q) ∙ sum-kept
 
     pub equal : first ≡ last → keepsLetters r up down x ≡ still r up down x
     unfolding still
@@ -94,26 +89,27 @@ module _ (r : Road) (ok : Accepted r) (up down : ℕ) (x : List ℕ) where
     unfolding still
     unequal n = sym (ap (both (keepsLetters r up down x)) (sym sums ∙ ne-eqb first last n) ∙ both-false (keepsLetters r up down x))
 
-  pub begins : (first : ℕ) → Below (r .jam) x → up ≤ r .jam → first ≡ entering (moved r) up down x → Comparing r up down x up up first 0
-  unfolding roundStep stepped entering moved
-  begins first h u e = record {
+module _ {r : Road} (ok : Accepted r) where
+  pub begins : (up down : ℕ) (x : List ℕ) {first : ℕ} → Below (r .jam) x → up ≤ r .jam → first ≡ entering (moved r) up down x → Comparing r up down x up up first 0
+  unfolding stepped
+  begins up down x h u e = record {
     inside = omega arith;
     old-below = u;
     new-below = u;
-    room = λ l. let f = in-room r ok up (getD x 0 0) (h 0) in let g = e ∙ ap (λ (b : ℕ). units r (numerator r up b)) (ahead-first down x l) in omega arith;
-    letters = ap (λ (w : ℕ). sameWord (wordOf r up down x) (wordOf r up down (advance 1 (moved r) 1 w down x))) e;
+    room = λ l. rw (e, enters (moved r) up down x l) (in-room (partners r ok .rounded) 0 up (getD x 0 0) (h 0));
+    letters = ap (λ (w : ℕ). compared r down up up 1 w x) e;
   }
 
-  module _ (old-left new-left inflow i : ℕ) (now : Comparing r up down x old-left new-left inflow i) where
+  module _ {up down : ℕ} {x : List ℕ} {old-left new-left inflow i : ℕ} (now : Comparing r up down x old-left new-left inflow i) where
     -- the next face with its new density, by what the code worked out
-    module _ (next out : ℕ) (h : i < length x) (n : next ≡ ahead down (drop (suc i) x)) (e : out ≡ units r (numerator r (getD x i 0) next)) where
+    module _ {next out : ℕ} (h : i < length x) (n : next ≡ ahead down (drop (suc i) x)) (e : out ≡ units r (numerator r (getD x i 0) next)) where
       cell : both (eqb (letter r old-left (getD x i 0)) (letter r new-left (getD x i 0 + inflow - out)))
           (compared r down (getD x i 0) (getD x i 0 + inflow - out) (suc (suc i)) out (drop (suc i) x)) ≡ keepsLetters r up down x
-      unfolding moved wordOf sameWord
+      unfolding wordOf sameWord
       cell =
           let own = getD x i 0 in
           let here : drop i x ≡ own ∷ drop (suc i) x = drop-cons x i 0 h in
-          let over : out ≡ moved r (suc i) own (ahead down (drop (suc i) x)) = e ∙ ap (λ (b : ℕ). units r (numerator r own b)) n in
+          let over : out ≡ moved r (suc i) own (ahead down (drop (suc i) x)) = e ∙ ap (moved r (suc i) own) n in
           sym (ap₂ sameWord (ap (wordOf r old-left down) here) (ap (wordOf r new-left down) (advance-cell (moved r) (suc i) inflow down own here out over)))
           ∙ now .letters
 
@@ -122,24 +118,22 @@ module _ (r : Road) (ok : Accepted r) (up down : ℕ) (x : List ℕ) where
 
       turn : eqb (letter r old-left (getD x i 0)) (letter r new-left (getD x i 0 + inflow - out)) ≡ true → Below (r .jam) x
           → Comparing r up down x (getD x i 0) (getD x i 0 + inflow - out) out (suc i)
-      turn k below =
-          let own = getD x i 0 in
-          record {
-            inside = h;
-            old-below = below i;
-            new-below = let room = now .room h in omega arith;
-            room = λ l.
-                let same-next : next ≡ getD x (suc i) 0 = n ∙ ahead-at down (suc i) x l in
-                rw (← same-next, e) (in-room r ok own next (rw same-next (below (suc i))));
-            letters = rw k at cell;
-          }
+      turn k below = record {
+        inside = h;
+        old-below = below i;
+        new-below = let room = now .room h in omega arith;
+        room = λ l.
+            let same-next : next ≡ getD x (suc i) 0 = n ∙ ahead-at down (suc i) x l in
+            rw (← same-next, e) (in-room (partners r ok .rounded) 0 (getD x i 0) next (rw same-next (below (suc i))));
+        letters = rw k at cell;
+      }
 
     -- the same, with the index as the code has it
-    pub changes : (next out : ℕ) → i < length x → next ≡ ahead down (drop (i + 1) x) → out ≡ units r (numerator r (getD x i 0) next)
+    pub changes : {next out : ℕ} → i < length x → next ≡ ahead down (drop (i + 1) x) → out ≡ units r (numerator r (getD x i 0) next)
         → eqb (letter r old-left (getD x i 0)) (letter r new-left (getD x i 0 + inflow - out)) ≡ false → false ≡ keepsLetters r up down x
     changes = rw (add-one i) changed
 
-    pub turns : (next out : ℕ) → i < length x → next ≡ ahead down (drop (i + 1) x) → out ≡ units r (numerator r (getD x i 0) next)
+    pub turns : {next out : ℕ} → i < length x → next ≡ ahead down (drop (i + 1) x) → out ≡ units r (numerator r (getD x i 0) next)
         → eqb (letter r old-left (getD x i 0)) (letter r new-left (getD x i 0 + inflow - out)) ≡ true → Below (r .jam) x
         → Comparing r up down x (getD x i 0) (getD x i 0 + inflow - out) out (i + 1)
     turns = rw (add-one i) turn

@@ -1,28 +1,41 @@
 -- What the calls of this crate ask and promise.
 use mathlib.Core.Path.{_≡_}
 use mathlib.Core.List.{List}
-use Prim.Native.Nat.{ℕ}
+use Prim.Native.Nat.{ℕ, _≤_, _<_}
+use lib.ListN.{length, getD}
+use Rattle.road.specs.Ceilings.{horizonCeiling}
 use Rattle.road.specs.Judgement.{Accepted}
 use Rattle.road.specs.declared.Road.{Road}
 use Rattle.flux.specs.Pace.{paceOf}
 use Rattle.flux.specs.declared.pace.Pace.{Pace}
-use Rattle.scheme.specs.Advance.{entering, leaving}
-use Rattle.scheme.specs.Rounded.{moved, roundStep, roundRun, entered, left}
+use Rattle.scheme.specs.Advance.{entering, leaving, stepped}
+use Rattle.scheme.specs.Sums.{Below}
+use Rattle.scheme.specs.Rounded.{roundRun, entered, left}
 use Rattle.scheme.specs.Settling.{settles, settleSteps, settleCells}
 use Rattle.scheme.specs.declared.settling.Settled.{Settled}
 use Rattle.scheme.specs.declared.one_step.Moved.{Moved}
 use Rattle.scheme.specs.declared.many_steps.Totals.{Totals}
 
--- a pace that was made of an accepted road
-pub record Ready (p : Pace) : Type 0 where
+-- what a step, a test of stillness and a settling run ask: a pace that was made of an accepted road, at least one cell, cells and ends in range
+pub record Ready (p : Pace) (xs : List ℕ) (up down : ℕ) : Type 0 where
   pub accepted : Accepted (p .road)
   pub made : p ≡ paceOf (p .road)
+  pub some : 0 < length xs
+  pub below : Below (p .road .jam) xs
+  pub up-high : up ≤ p .road .jam
+  pub down-high : down ≤ p .road .jam
 
--- one step of the list xs has left the list ys, with the units over face 0 and face n
-pub record Stepped (r : Road) (up down : ℕ) (xs ys : List ℕ) (m : Moved) : Type 0 where
-  pub cells : ys ≡ roundStep r up down xs
-  pub entered : m .entered ≡ entering (moved r) up down xs
-  pub left : m .left ≡ leaving (moved r) up down xs
+-- and a run: so for each pair of its end lists, and past them for ends of 0; the lists are of one length within the ceiling
+pub record ReadyToRun (p : Pace) (xs ups downs : List ℕ) : Type 0 where
+  pub each : (t : ℕ) → Ready p xs (getD ups t 0) (getD downs t 0)
+  pub same : length downs ≡ length ups
+  pub short : length ups ≤ horizonCeiling
+
+-- one step of the flow F (face, upstream density, downstream density) from the list xs has left the list ys, with the units over face 0 and face n
+pub record Stepped (F : ℕ → ℕ → ℕ → ℕ) (up down : ℕ) (xs ys : List ℕ) (m : Moved) : Type 0 where
+  pub cells : ys ≡ stepped 1 F up down xs
+  pub entered : m .entered ≡ entering F up down xs
+  pub left : m .left ≡ leaving F up down xs
 
 -- a run from the list xs has left the list ys, with the sums over face 0 and face n
 pub record Ran (r : Road) (ups downs xs ys : List ℕ) (t : Totals) : Type 0 where

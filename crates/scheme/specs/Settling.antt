@@ -7,6 +7,7 @@ use lib.Dec.{eqb}
 use Rattle.road.specs.Choice.{pick, both}
 use Rattle.road.specs.declared.Road.{Road}
 use Rattle.scheme.specs.Sums.{sum}
+use Rattle.scheme.specs.Runs.{iterated}
 use Rattle.scheme.specs.Word.{wordOf}
 use Rattle.scheme.specs.Rounded.{roundStep}
 
@@ -26,27 +27,39 @@ unfoldable pub still : Road → ℕ → ℕ → List ℕ → Bool
 still r up down xs = both (keepsLetters r up down xs) (eqb (sum xs) (sum (roundStep r up down xs)))
 
 -- the cells after k steps with the one end pair
-unfoldable pub after : Road → ℕ → ℕ → ℕ → List ℕ → List ℕ
-after r up down zero xs = xs
-after r up down (suc k) xs = after r up down k (roundStep r up down xs)
+abbrev pub after : Road → ℕ → ℕ → ℕ → List ℕ → List ℕ
+after r up down k xs = iterated (roundStep r up down) k xs
+
+-- a search along the steps S for a state that a test finds, among the first t: whether there is one, and the steps to the first, else t
+unfoldable pub finds : (List ℕ → List ℕ) → (List ℕ → Bool) → ℕ → List ℕ → Bool
+finds S test zero xs = false
+finds S test (suc t) xs = pick (test xs) true (finds S test t (S xs))
+
+unfoldable pub stepsTo : (List ℕ → List ℕ) → (List ℕ → Bool) → ℕ → List ℕ → ℕ
+stepsTo S test zero xs = 0
+stepsTo S test (suc t) xs = pick (test xs) 0 (suc (stepsTo S test t (S xs)))
 
 -- settled: some step of the first T is still
 unfoldable pub settles : Road → ℕ → ℕ → ℕ → List ℕ → Bool
-settles r up down zero xs = false
-settles r up down (suc t) xs = pick (still r up down xs) true (settles r up down t (roundStep r up down xs))
+unfolding finds
+settles r up down = finds (roundStep r up down) (still r up down)
 
 -- the steps made: the least k below T such that step k+1 is still, else T
 unfoldable pub settleSteps : Road → ℕ → ℕ → ℕ → List ℕ → ℕ
-settleSteps r up down zero xs = 0
-settleSteps r up down (suc t) xs = pick (still r up down xs) 0 (suc (settleSteps r up down t (roundStep r up down xs)))
+unfolding stepsTo
+settleSteps r up down = stepsTo (roundStep r up down) (still r up down)
 
 -- the state handed back: the one after those steps
 unfoldable pub settleCells : Road → ℕ → ℕ → ℕ → List ℕ → List ℕ
 settleCells r up down t xs = after r up down (settleSteps r up down t xs) xs
 
--- what a report of k steps means: none of the first k is still; settled says that step k+1 is, with k below T; unsettled that k is T
-pub record LeastStill (r : Road) (up down t : ℕ) (xs : List ℕ) (settled : Bool) (k : ℕ) : Type 0 where
-  pub before : (j : ℕ) → j < k → still r up down (after r up down j xs) ≡ false
+-- what a report of k steps means: the test finds none of the states before; settled says that it finds the one after k steps, with k below t; unsettled that k is t
+pub record Least (S : List ℕ → List ℕ) (test : List ℕ → Bool) (t : ℕ) (xs : List ℕ) (settled : Bool) (k : ℕ) : Type 0 where
+  pub before : (j : ℕ) → j < k → test (iterated S j xs) ≡ false
   pub within : settled ≡ true → k < t
-  pub found : settled ≡ true → still r up down (after r up down k xs) ≡ true
+  pub found : settled ≡ true → test (iterated S k xs) ≡ true
   pub none : settled ≡ false → k ≡ t
+
+-- none of the first k steps is still, and step k+1 is, or k is T
+abbrev pub LeastStill : Road → ℕ → ℕ → ℕ → List ℕ → Bool → ℕ → Type 0
+LeastStill r up down = Least (roundStep r up down) (still r up down)

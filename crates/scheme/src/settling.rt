@@ -1,12 +1,11 @@
 // The settling run: one end pair for all steps, up to the first still step.
 ghost use mathlib.Core.Path.{_≡_};
-ghost use Prim.Native.Nat.{_≤_, _<_};
+ghost use Prim.Native.Nat.{_≤_};
 ghost use lib.Dec.{eqb};
-ghost use lib.ListN.{length, drop};
+ghost use lib.ListN.{drop};
 ghost use Rattle.road.specs.Judgement.{Accepted};
 ghost use Rattle.flux.specs.Face.{letter};
 ghost use Rattle.scheme.specs.Advance.{ahead, entering};
-ghost use Rattle.scheme.specs.Sums.{Below};
 ghost use Rattle.scheme.specs.Rounded.{moved};
 ghost use Rattle.scheme.specs.Settling.{keepsLetters, still};
 ghost use Rattle.scheme.specs.Calls.{Ready, SettledTo};
@@ -21,10 +20,10 @@ pub struct Settled {
 }
 
 // Internal: the density at i, or the ghost cell's past the last.
-pub fn density_at(x: &[u32], i: usize, down: u32) -> u32
-    ensures { λ r. ⌜ r ≡ ahead down (drop i (now (x .entry))) ⌝ }
+pub fn density_at(cells: &[u32], i: usize, down: u32) -> u32
+    ensures { λ r. ⌜ r ≡ ahead down (drop i (now (cells .entry))) ⌝ }
 {
-    if i < x.len() { x[i] } else { down }
+    if i < cells.len() { cells[i] } else { down }
 }
 
 // Internal: whether a face keeps its letter when its densities go from a, b to c, d.
@@ -41,21 +40,18 @@ fn keeps_letter(r: Road, a: u32, b: u32, c: u32, d: u32) -> bool
 
 // Internal: whether the next step would keep the letter at every face. Works the new densities as the step does, without
 // writing them.
-fn keeps_letters(pace: Pace, x: &[u32], up: u32, down: u32, first: u32) -> bool
-    requires { ⌜ Ready pace ⌝ }
-    requires { ⌜ Below (pace .road .jam) (now x) ⌝ }
-    requires { ⌜ up ≤ pace .road .jam ⌝ }
-    requires { ⌜ down ≤ pace .road .jam ⌝ }
-    requires { ⌜ first ≡ entering (moved (pace .road)) up down (now x) ⌝ }
-    ensures { λ s. ⌜ s ≡ keepsLetters (pace .road) up down (now (x .entry)) ⌝ }
+fn keeps_letters(pace: Pace, cells: &[u32], up: u32, down: u32, first: u32) -> bool
+    requires { ⌜ Ready pace (now cells) up down ⌝ }
+    requires { ⌜ first ≡ entering (moved (pace .road)) up down (now cells) ⌝ }
+    ensures { λ s. ⌜ s ≡ keepsLetters (pace .road) up down (now (cells .entry)) ⌝ }
 {
     let mut old_left = up;
     let mut new_left = up;
     let mut inflow = first;
     let mut i = 0;
-    while i < x.len() {
-        let own = x[i];
-        let out = pace.flow(own, density_at(x, i + 1, down));
+    while i < cells.len() {
+        let own = cells[i];
+        let out = pace.flow(own, density_at(cells, i + 1, down));
         let new = own + inflow - out;
         if !keeps_letter(pace.road, old_left, own, new_left, new) {
             return false;
@@ -70,18 +66,14 @@ fn keeps_letters(pace: Pace, x: &[u32], up: u32, down: u32, first: u32) -> bool
 
 // Internal: whether the next step would be still. The sum of the cells is kept exactly when as much leaves as enters,
 // which is seldom so: only then are the letters looked at.
-fn is_still(pace: Pace, x: &[u32], up: u32, down: u32) -> bool
-    requires { ⌜ Ready pace ⌝ }
-    requires { ⌜ 0 < length (now x) ⌝ }
-    requires { ⌜ Below (pace .road .jam) (now x) ⌝ }
-    requires { ⌜ up ≤ pace .road .jam ⌝ }
-    requires { ⌜ down ≤ pace .road .jam ⌝ }
-    ensures { λ s. ⌜ s ≡ still (pace .road) up down (now (x .entry)) ⌝ }
+fn is_still(pace: Pace, cells: &[u32], up: u32, down: u32) -> bool
+    requires { ⌜ Ready pace (now cells) up down ⌝ }
+    ensures { λ s. ⌜ s ≡ still (pace .road) up down (now (cells .entry)) ⌝ }
 {
-    let first = pace.flow(up, x[0]);
-    let last = pace.flow(x[x.len() - 1], down);
+    let first = pace.flow(up, cells[0]);
+    let last = pace.flow(cells[cells.len() - 1], down);
     if first == last {
-        keeps_letters(pace, x, up, down, first)
+        keeps_letters(pace, cells, up, down, first)
     } else {
         false
     }
@@ -89,11 +81,7 @@ fn is_still(pace: Pace, x: &[u32], up: u32, down: u32) -> bool
 
 // Internal: the list then holds the state that the settling run hands back.
 pub fn settle(pace: Pace, cells: &mut [u32], up: u32, down: u32, horizon: u32) -> Settled
-    requires { ⌜ Ready pace ⌝ }
-    requires { ⌜ 0 < length (now cells) ⌝ }
-    requires { ⌜ Below (pace .road .jam) (now cells) ⌝ }
-    requires { ⌜ up ≤ pace .road .jam ⌝ }
-    requires { ⌜ down ≤ pace .road .jam ⌝ }
+    requires { ⌜ Ready pace (now cells) up down ⌝ }
     ensures { λ s. ⌜ SettledTo (pace .road) up down horizon (now (cells .entry)) (now (cells .exit)) s ⌝ }
 {
     let mut steps = 0;

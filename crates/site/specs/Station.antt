@@ -62,8 +62,17 @@ abbrev pub badResult : Road → StationReading → Bool
 badResult r x = badEstimate (r .jam) (estimateOf r x)
 
 -- rows 16 to 18; each reports place 0
+abbrev pub givenRow : StationReading → Row
+givenRow x = row (badGiven x) 16 0
+
+abbrev pub fastRow : Road → StationReading → Row
+fastRow r x = row (tooFast r x) 17 0
+
+abbrev pub resultRow : Road → StationReading → Row
+resultRow r x = row (badResult r x) 18 0
+
 abbrev pub givenRows : Road → StationReading → List Row
-givenRows r x = row (badGiven x) 16 0 ∷ row (tooFast r x) 17 0 ∷ row (badResult r x) 18 0 ∷ []
+givenRows r x = givenRow x ∷ fastRow r x ∷ resultRow r x ∷ []
 
 -- "After the road checks": 1 to 4, then 16 to 18
 abbrev pub stationRows : Road → StationReading → List Row

@@ -7,6 +7,7 @@ use lib.ListN.{length}
 use Rattle.road.specs.Ceilings.{cellsCeiling}
 use Rattle.road.proofs.Table.{next-row}
 use Rattle.checks.proofs.First.{first-bound}
+use Rattle.checks.proofs.Rows.{one-end}
 use borrow.Author.Needs.{needs}
 use Rattle.checks.proofs.pairs.or_pair.Statement.{statement}
 use Rattle.checks.proofs.pairs.or_pair.Tie as tie
@@ -48,17 +49,15 @@ returns c =
     let cell = up .before in
     let s = cell .before .before in
     c .or-if3 .ensures
-    ∙ next-row 11
+    ∙ one-end 11 (s .args .road .jam) (s .args .down)
     (c .before .or-if2 .ensures
-    ∙ next-row 10
+    ∙ one-end 10 (s .args .road .jam) (s .args .up)
     (c .before .before .or-if .ensures
     ∙ next-row 9 refl
     (ap (λ (k : ℕ). ltb k (length (s .args .cells .now))) (cell .first-above .ensures))
     (ap (λ (k : ℕ). k + 1) (cell .first-above .ensures)))
-    (up .is-above .ensures)
-    refl)
+    (up .is-above .ensures))
     (down .is-above2 .ensures)
-    refl
 
 pub or-pair-spec : {M : Type 1} → statement M
 or-pair-spec =

@@ -1,9 +1,10 @@
 -- `forecast::forecast` meets its contract: refused, nothing is written; otherwise the copy is run.
 use mathlib.Core.Path.{_≡_}
 use Rattle.road.proofs.Parts.{same-number}
+use Rattle.road.proofs.Calls as Calls
 use lib.ListN.{length}
 use Rattle.forecast.specs.Forecast.{forecastRefusal, Checked}
-use Rattle.forecast.proofs.Checked.{checked-of}
+use Rattle.forecast.proofs.Checked.{forecast-call}
 use Rattle.forecast.proofs.Answers.{refused}
 use Rattle.forecast.proofs.Calling.{run-asks, run-gives}
 use borrow.Author.Needs.{needs}
@@ -27,7 +28,7 @@ nothing c = same-number (c .before .before .judged .ensures) (c .if1 .left)
 checked : (c : tie.Else1) → let s = c .before .before .before .before .before .before .before in Checked (s .args .road) (s .args .cells .now) (s .args .upstream .now) (s .args .downstream .now) (s .args .horizon) (length (s .args .out .now))
 checked c =
     let s = c .before .before .before .before .before .before .before in
-    checked-of (s .args .road) (s .args .cells .now) (s .args .upstream .now) (s .args .downstream .now) (s .args .horizon) (length (s .args .out .now)) (nothing c)
+    Calls.checked (forecast-call (s .args .road) (s .args .cells .now) (s .args .upstream .now) (s .args .downstream .now) (s .args .horizon) (length (s .args .out .now))) (nothing c)
 
 copy-requires : tie.Need-copy-requires
 copy-requires c κs = checked (c .before) .output-long

@@ -1,7 +1,7 @@
 -- `forecast::judged` of the settling run meets its contract: a refusal of the shape stands, and below it the cells and the pair are judged.
 use lib.ListN.{length}
 use Rattle.road.proofs.Parts.{same-number, part-goes-on}
-use Rattle.checks.specs.Values.{pairRows}
+use Rattle.checks.specs.Rows.{pairRows}
 use Rattle.forecast.specs.Settle.{settleShapeRows, settleShapeRefusal, settleRefusal}
 use Rattle.forecast.proofs.Checked.{settle-shape-stands, settle-shape-short}
 use borrow.Author.Needs.{needs}

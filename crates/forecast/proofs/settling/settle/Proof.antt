@@ -2,8 +2,9 @@
 use mathlib.Core.Path.{_≡_}
 use lib.ListN.{length}
 use Rattle.road.proofs.Parts.{same-number}
+use Rattle.road.proofs.Calls as Calls
 use Rattle.forecast.specs.Settle.{settleRefusal, SettleChecked}
-use Rattle.forecast.proofs.Checked.{settle-checked-of}
+use Rattle.forecast.proofs.Checked.{settle-call}
 use Rattle.forecast.proofs.Answers.{settle-refused}
 use Rattle.forecast.proofs.Calling.{settle-asks, settle-gives}
 use borrow.Author.Needs.{needs}
@@ -27,7 +28,7 @@ nothing c = same-number (c .before .before .judged .ensures) (c .if1 .left)
 checked : (c : tie.Else1) → let s = c .before .before .before .before .before in SettleChecked (s .args .road) (s .args .cells .now) (s .args .up) (s .args .down) (s .args .horizon) (length (s .args .out .now))
 checked c =
     let s = c .before .before .before .before .before in
-    settle-checked-of (s .args .road) (s .args .cells .now) (s .args .up) (s .args .down) (s .args .horizon) (length (s .args .out .now)) (nothing c)
+    Calls.checked (settle-call (s .args .road) (s .args .cells .now) (s .args .up) (s .args .down) (s .args .horizon) (length (s .args .out .now))) (nothing c)
 
 copy-requires : tie.Need-copy-requires
 copy-requires c κs = checked (c .before) .output-long

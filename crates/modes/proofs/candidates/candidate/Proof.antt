@@ -1,9 +1,10 @@
 -- `modes::candidate` meets its contract: refused, or the mode's row applied.
 use mathlib.Core.Path.{_≡_, _∙_, ap}
 use Rattle.road.proofs.Parts.{same-number}
+use Rattle.road.proofs.Calls.{checked}
 use Rattle.modes.specs.declared.candidates.CandidateRow.{CandidateRow}
 use Rattle.modes.specs.Candidate.{applied, candidateRefusal}
-use Rattle.modes.proofs.CandidateAnswers.{candidate-checked-of, candidate-refused, candidate-done}
+use Rattle.modes.proofs.CandidateAnswers.{candidate-call, candidate-refused, candidate-done}
 use borrow.Author.Needs.{needs}
 use Rattle.modes.proofs.candidates.candidate.Statement.{statement}
 use Rattle.modes.proofs.candidates.candidate.Tie as tie
@@ -25,8 +26,8 @@ nothing c = same-number (c .before .before .judged .ensures) (c .if1 .left)
 of-requires : tie.Need-of-requires
 of-requires c κs =
     let a = c .before .before .before .args in
-    let checked = candidate-checked-of (a .road) (a .mode) (a .left) (a .own) (a .right) (nothing c) in
-    (checked .accepted, (checked .mode-low, checked .mode-high))
+    let k = checked (candidate-call (a .road) (a .mode) (a .left) (a .own) (a .right)) (nothing c) in
+    (k .accepted, (k .mode-low, k .mode-high))
 
 applied-requires : tie.Need-applied-requires
 applied-requires c κs = search needs

@@ -1,8 +1,9 @@
 -- `modes::count` meets its contract: refused above the ceiling, otherwise counted.
 use mathlib.Core.Path.{_≡_}
 use Rattle.road.proofs.Parts.{same-number}
+use Rattle.road.proofs.Calls.{checked}
 use Rattle.modes.specs.Count.{countRefusal}
-use Rattle.modes.proofs.CountAnswers.{count-within, refused, done}
+use Rattle.modes.proofs.CountAnswers.{count-call, refused, done}
 use borrow.Author.Needs.{needs}
 use Rattle.modes.proofs.counting.count.Statement.{statement}
 use Rattle.modes.proofs.counting.count.Tie as tie
@@ -20,7 +21,7 @@ nothing : (c : tie.Else1) → countRefusal (c .before .before .before .args .cel
 nothing c = same-number (c .before .before .judged .ensures) (c .if1 .left)
 
 counted-requires : tie.Need-counted-requires
-counted-requires c κs = count-within (c .before .before .before .args .cells) (nothing c)
+counted-requires c κs = checked (count-call (c .before .before .before .args .cells)) (nothing c)
 
 returns-2 : tie.Need-returns-2
 returns-2 c =

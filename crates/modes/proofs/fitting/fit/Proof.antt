@@ -1,8 +1,9 @@
 -- `modes::fit` meets its contract: refused by the table, otherwise compared.
 use mathlib.Core.Path.{_≡_}
 use Rattle.road.proofs.Parts.{same-number}
+use Rattle.road.proofs.Calls.{checked}
 use Rattle.modes.specs.Judging.{fitRefusal}
-use Rattle.modes.proofs.FitAnswers.{checked-of, refused, done}
+use Rattle.modes.proofs.FitAnswers.{fit-call, refused, done}
 use borrow.Author.Needs.{needs}
 use Rattle.modes.proofs.fitting.fit.Statement.{statement}
 use Rattle.modes.proofs.fitting.fit.Tie as tie
@@ -24,7 +25,7 @@ nothing c = same-number (c .before .before .judged .ensures) (c .if1 .left)
 compared-requires : tie.Need-compared-requires
 compared-requires c κs =
     let s = c .before .before .before .before .before in
-    checked-of (s .args .road) (s .args .cells .now) (s .args .up) (s .args .down) (s .args .word .now) (nothing c)
+    checked (fit-call (s .args .road) (s .args .cells .now) (s .args .up) (s .args .down) (s .args .word .now)) (nothing c)
 
 returns-2 : tie.Need-returns-2
 returns-2 c =

@@ -2,8 +2,9 @@
 use mathlib.Core.Path.{_≡_}
 use lib.ListN.{length}
 use Rattle.road.proofs.Parts.{same-number}
+use Rattle.road.proofs.Calls.{checked}
 use Rattle.modes.specs.Judging.{predictRefusal}
-use Rattle.modes.proofs.PredictAnswers.{checked-of, refused, done}
+use Rattle.modes.proofs.PredictAnswers.{predict-call, refused, done}
 use borrow.Author.Needs.{needs}
 use Rattle.modes.proofs.prediction.predict.Statement.{statement}
 use Rattle.modes.proofs.prediction.predict.Tie as tie
@@ -26,7 +27,7 @@ nothing c = same-number (c .before .before .judged .ensures) (c .if1 .left)
 write-rows-requires : tie.Need-write-rows-requires
 write-rows-requires c κs =
     let s = c .before .before .before .before .before .before in
-    checked-of (s .args .road) (s .args .cells .now) (s .args .up) (s .args .down) (s .args .word .now) (length (s .args .out .now)) (nothing (c .before))
+    checked (predict-call (s .args .road) (s .args .cells .now) (s .args .up) (s .args .down) (s .args .word .now) (length (s .args .out .now))) (nothing (c .before))
 
 same-length : tie.Need-same-length
 same-length c = search needs

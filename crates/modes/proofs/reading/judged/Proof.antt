@@ -1,7 +1,7 @@
 -- `modes::judged` of the reading meets its contract: a refusal of the shape stands, and below it the cells and the pair are judged.
 use lib.ListN.{length}
 use Rattle.road.proofs.Parts.{same-number, part-goes-on}
-use Rattle.checks.specs.Values.{pairRows}
+use Rattle.checks.specs.Rows.{pairRows}
 use Rattle.modes.specs.Judging.{readShapeRows, readRefusal}
 use Rattle.modes.specs.Reading.{readShapeRefusal}
 use Rattle.modes.proofs.ReadJudging.{read-shape-stands, read-shape-short}

@@ -1,14 +1,16 @@
 -- `scheme::run` meets its contract: the loop keeps `Underway`.
-use Prim.Native.Nat.{_-_}
+use Prim.Native.Nat.{_+_, _-_}
 use native.Mathlib.Omega.{arith}
 use borrow.Author.Needs.{needs}
-use lib.ListN.{length, getD}
-use Rattle.scheme.proofs.Underway.{Underway, begins, turns, ends, entering-small, leaving-small}
+use lib.ListN.{length}
+use Rattle.scheme.specs.Rounded.{moved}
+use Rattle.scheme.proofs.Laws.{lawful, ready-again}
+use Rattle.scheme.proofs.Underway.{Underway, begins, turns, ends}
 use Rattle.scheme.proofs.many_steps.run.Statement.{statement}
 use Rattle.scheme.proofs.many_steps.run.Tie as tie
 
 abbrev Inv-loop : tie.InvT-loop
-Inv-loop pace cells₀ ups downs entered₀ left₀ t₀ cells entered left t = Underway (pace .road) ups downs cells₀ cells entered left t
+Inv-loop pace cells₀ ups downs entered₀ left₀ t₀ cells entered left t = Underway (pace .road .jam) (λ s. moved (pace .road)) ups downs cells₀ cells entered left t
 
 abbrev μ-loop : tie.MeasureT-loop
 μ-loop pace cells₀ ups downs entered₀ left₀ t₀ cells entered left t = length ups - t
@@ -16,91 +18,44 @@ abbrev μ-loop : tie.MeasureT-loop
 loop-holds : tie.Need-loop-holds Inv-loop μ-loop
 loop-holds c =
     let s = c .before .before .before in
-    begins (s .args .pace .road) (s .pre .0 .accepted) (s .args .ups .now) (s .args .downs .now) (s .args .cells .now) (s .pre .1 .1 .0)
-
-mul-step : tie.Need-mul-step Inv-loop μ-loop
-mul-step c = search needs
-
-shared-slice-read-step : tie.Need-shared-slice-read-step Inv-loop μ-loop
-shared-slice-read-step c = search needs
-
-mul-step-2 : tie.Need-mul-step-2 Inv-loop μ-loop
-mul-step-2 c = search needs
-
-shared-slice-read-step-2 : tie.Need-shared-slice-read-step-2 Inv-loop μ-loop
-shared-slice-read-step-2 c =
-    let s = c .before .before .before .before .before .before .before .before in
-    let same = s .pre .1 .1 .1 .1 .1 .0 in
-    omega arith
+    begins (λ t. moved (s .args .pace .road)) (s .args .upstream .now) (s .args .downstream .now) (s .args .cells .now) (s .pre .each 0 .below)
 
 step-requires : tie.Need-step-requires Inv-loop μ-loop
 step-requires c κs =
     let l = c .before .before .before .before in
-    let s = l .before .before .before .before in (
-      s .pre .0,
-      (
-        let n = l .loop .inv .long in let p = s .pre .1 .0 in omega arith,
-        (l .loop .inv .below, (s .pre .1 .1 .1 .0 (l .loop .t), s .pre .1 .1 .1 .1 .0 (l .loop .t))),
-      ),
-    )
+    let s = l .before .before .before .before in
+    ready-again (s .pre .each (l .loop .t)) (l .loop .inv .long) (l .loop .inv .below)
 
-cast-entered : tie.Need-cast-entered Inv-loop μ-loop
-cast-entered c = search needs
+-- a step made: the next turn of the loop, whose sums are small
+again : (c : tie.After-step Inv-loop μ-loop) → let l = c .before .before .before .before .before in let s = l .before .before .before .before in
+    Underway (s .args .pace .road .jam) (λ t. moved (s .args .pace .road)) (s .args .upstream .now) (s .args .downstream .now) (s .args .cells .now)
+    (c .step .last .1 .0) (l .loop .entered + c .step .result .entered) (l .loop .left + c .step .result .left) (l .loop .t + 1)
+again c =
+    let l = c .before .before .before .before .before in
+    let s = l .before .before .before .before in
+    let ready = s .pre .each (l .loop .t) in
+    let more = c .before .before .before .before .loop-test .taken in
+    turns (λ t. lawful ready) (ready .accepted .jam-high) (l .loop .inv)
+    (c .step .last .1 .0) (c .step .result) more (let same = s .pre .same in omega arith) (ready .up-high) (c .step .ensures)
 
 add-entered : tie.Need-add-entered Inv-loop μ-loop
 add-entered c =
-    let l = c .before .before .before .before .before .before .before .before in
-    let s = l .before .before .before .before in
-    let r = s .args .pace .road in
-    let few = entering-small r (s .pre .0 .accepted) (getD (s .args .ups .now) (l .loop .t) 0) (getD (s .args .downs .now) (l .loop .t) 0) (l .loop .cells) (s .pre .1 .1 .1 .0 (l .loop .t)) in
-    let more = c .before .before .before .before .before .before .before .loop-test .taken in
-    let is = c .before .before .before .step .ensures .entered in
-    let sofar = l .loop .inv .in-small in
-    let high = s .pre .0 .accepted .jam-high in
-    let short = s .pre .1 .1 .1 .1 .1 .1 in
-    omega arith
-
-cast-left : tie.Need-cast-left Inv-loop μ-loop
-cast-left c = search needs
+    let sums = again (c .before .before .before) .in-small in
+    search needs
 
 add-left : tie.Need-add-left Inv-loop μ-loop
 add-left c =
-    let l = c .before .before .before .before .before .before .before .before .before in
-    let s = l .before .before .before .before in
-    let r = s .args .pace .road in
-    let few = leaving-small r (s .pre .0 .accepted) (getD (s .args .ups .now) (l .loop .t) 0) (getD (s .args .downs .now) (l .loop .t) 0) (l .loop .cells) (l .loop .inv .below) (s .pre .1 .1 .1 .0 (l .loop .t)) in
-    let more = c .before .before .before .before .before .before .before .before .loop-test .taken in
-    let is = c .before .before .before .before .step .ensures .left in
-    let sofar = l .loop .inv .out-small in
-    let high = s .pre .0 .accepted .jam-high in
-    let short = s .pre .1 .1 .1 .1 .1 .1 in
-    omega arith
-
-add-t : tie.Need-add-t Inv-loop μ-loop
-add-t c = search needs
-
-loop-less : tie.Need-loop-less Inv-loop μ-loop
-loop-less c = search needs
+    let sums = again (c .before .before .before .before) .out-small in
+    search needs
 
 loop-again : tie.Need-loop-again Inv-loop μ-loop
-loop-again c =
-    let l = c .before .before .before .before .before .before .before .before .before in
-    let s = l .before .before .before .before in
-    let d = c .before .before .before .before in
-    let more = d .before .before .before .before .loop-test .taken in
-    turns (s .args .pace .road) (s .pre .0 .accepted) (s .args .ups .now) (s .args .downs .now) (s .args .cells .now)
-    (l .loop .cells) (l .loop .entered) (l .loop .left) (l .loop .t) (l .loop .inv)
-    (d .step .last .1 .0) (d .step .result) more (let same = s .pre .1 .1 .1 .1 .1 .0 in omega arith) (s .pre .1 .1 .1 .0 (l .loop .t)) (d .step .ensures)
-
-same-length : tie.Need-same-length Inv-loop μ-loop
-same-length c = c .before .loop .inv .long
+loop-again c = again (c .before .before .before .before)
 
 returns : tie.Need-returns Inv-loop μ-loop
 returns c =
     let l = c .before in
     let s = l .before .before .before .before in
-    ends (s .args .pace .road) (s .pre .0 .accepted) (s .args .ups .now) (s .args .downs .now) (s .args .cells .now)
-    (l .loop .cells) (l .loop .entered) (l .loop .left) (l .loop .t) (l .loop .inv) (c .loop-test .left)
+    ends (l .loop .inv) (c .loop-test .left) (let same = s .pre .same in omega arith)
 
 pub run-spec : {M : Type 1} → statement M
 run-spec =
@@ -109,17 +64,17 @@ run-spec =
     Inv-loop
     μ-loop
     loop-holds
-    mul-step
-    shared-slice-read-step
-    mul-step-2
-    shared-slice-read-step-2
+    (λ c. search needs)
+    (λ c. search needs)
+    (λ c. search needs)
+    (λ c. search needs)
     step-requires
-    cast-entered
+    (λ c. search needs)
     add-entered
-    cast-left
+    (λ c. search needs)
     add-left
-    add-t
-    loop-less
+    (λ c. search needs)
+    (λ c. search needs)
     loop-again
-    same-length
+    (λ c. search needs)
     returns)

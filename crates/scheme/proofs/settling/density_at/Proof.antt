@@ -5,19 +5,13 @@ use borrow.Author.Needs.{needs}
 use Rattle.scheme.proofs.settling.density_at.Statement.{statement}
 use Rattle.scheme.proofs.settling.density_at.Tie as tie
 
-mul-result : tie.Need-mul-result
-mul-result c = search needs
-
-shared-slice-read-result : tie.Need-shared-slice-read-result
-shared-slice-read-result c = search needs
-
 returns : tie.Need-returns
 returns c =
     let s = c .before .before in
-    sym (ahead-at (s .args .down) (s .args .i) (s .args .x .now) (c .before .if1 .taken))
+    sym (ahead-at (s .args .down) (s .args .i) (s .args .cells .now) (c .before .if1 .taken))
 
 returns-2 : tie.Need-returns-2
-returns-2 c = sym (ahead-past (c .before .args .down) (c .before .args .i) (c .before .args .x .now) (c .if1 .left))
+returns-2 c = sym (ahead-past (c .before .args .down) (c .before .args .i) (c .before .args .cells .now) (c .if1 .left))
 
 pub density-at-spec : {M : Type 1} → statement M
-density-at-spec = tie.close (tie.spec mul-result shared-slice-read-result returns returns-2)
+density-at-spec = tie.close (tie.spec (λ c. search needs) (λ c. search needs) returns returns-2)

@@ -5,14 +5,8 @@ use borrow.Author.Needs.{needs}
 use Rattle.scheme.proofs.settling.keeps_letter.Statement.{statement}
 use Rattle.scheme.proofs.settling.keeps_letter.Tie as tie
 
-letter-requires : tie.Need-letter-requires
-letter-requires c κs = search needs
-
-letter-requires-2 : tie.Need-letter-requires-2
-letter-requires-2 c κs = search needs
-
 returns : tie.Need-returns
 returns c = ap₂ eqb (c .before .letter .ensures) (c .letter2 .ensures)
 
 pub keeps-letter-spec : {M : Type 1} → statement M
-keeps-letter-spec = tie.close (tie.spec letter-requires letter-requires-2 returns)
+keeps-letter-spec = tie.close (tie.spec (λ c κs. search needs) (λ c κs. search needs) returns)

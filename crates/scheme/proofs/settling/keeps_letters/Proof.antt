@@ -6,7 +6,8 @@ use borrow.Author.Needs.{needs}
 use borrow.Author.Tests.{not-true, not-false}
 use lib.ListN.{length, getD}
 use Rattle.scheme.proofs.Ahead.{ahead-below}
-use Rattle.scheme.proofs.InPlace.{out-holds}
+use Rattle.scheme.proofs.Range.{out-holds}
+use Rattle.scheme.proofs.Laws.{lawful}
 use Rattle.scheme.proofs.Stillness.{Comparing, begins, changes, turns, ends}
 use Rattle.scheme.proofs.settling.keeps_letters.Statement.{statement}
 use Rattle.scheme.proofs.settling.keeps_letters.Tie as tie
@@ -21,56 +22,34 @@ abbrev μ-loop : tie.MeasureT-loop
 loop-holds : tie.Need-loop-holds Inv-loop μ-loop
 loop-holds c =
     let s = c .before in
-    let (ready, (below, (up-high, (down-high, enters)))) = s .pre in
-    begins (s .args .pace .road) (ready .accepted) (s .args .up) (s .args .down) (s .args .x .now) (s .args .first) below up-high enters
-
-mul-own : tie.Need-mul-own Inv-loop μ-loop
-mul-own c = search needs
-
-shared-slice-read-own : tie.Need-shared-slice-read-own Inv-loop μ-loop
-shared-slice-read-own c = search needs
-
-add-density-at : tie.Need-add-density-at Inv-loop μ-loop
-add-density-at c = search needs
-
-density-at-requires : tie.Need-density-at-requires Inv-loop μ-loop
-density-at-requires c κs = search needs
+    let ready = s .pre .0 in
+    begins (ready .accepted) (s .args .up) (s .args .down) (s .args .cells .now) (ready .below) (ready .up-high) (s .pre .1)
 
 flow-requires : tie.Need-flow-requires Inv-loop μ-loop
 flow-requires c κs =
     let l = c .before .before .before in
     let s = l .before .before in
-    let (ready, (below, (up-high, (down-high, enters)))) = s .pre in (
-      ready .accepted,
-      (
-        ready .made,
-        (
-          below (l .loop .i),
-          rw (c .density-at .ensures) (ahead-below (s .args .pace .road .jam) (s .args .down) (l .loop .i + 1) (s .args .x .now) below down-high),
-        ),
-      ),
-    )
+    let ready = s .pre .0 in
+    let next = ahead-below (s .args .pace .road .jam) (s .args .down) (l .loop .i + 1) (s .args .cells .now) (ready .below) (ready .down-high) in
+    (ready .accepted, (ready .made, (ready .below (l .loop .i), rw (c .density-at .ensures) next)))
 
 add-new : tie.Need-add-new Inv-loop μ-loop
 add-new c =
-    let l = c .before .before .before .before in
-    let s = l .before .before in
-    let room = l .loop .inv .room (c .before .before .before .loop-test .taken) in
-    let high = s .pre .0 .accepted .jam-high in
-    omega arith
+    let room = c .before .before .before .before .loop .inv .room (c .before .before .before .loop-test .taken) in
+    search needs
 
 sub-new : tie.Need-sub-new Inv-loop μ-loop
 sub-new c =
     let l = c .before .before .before .before in
     let s = l .before .before in
-    omega (arith, c .flow .ensures, out-holds (s .args .pace .road) (s .pre .0 .accepted) (getD (s .args .x .now) (l .loop .i) 0) (c .before .density-at .result))
+    omega (arith, c .flow .ensures, out-holds (lawful (s .pre .0)) 0 (getD (s .args .cells .now) (l .loop .i) 0) (c .before .density-at .result))
 
 keeps-letter-requires : tie.Need-keeps-letter-requires Inv-loop μ-loop
 keeps-letter-requires c κs =
     let l = c .before .before .before .before in
     let s = l .before .before in
     let room = l .loop .inv .room (c .before .before .before .loop-test .taken) in
-    (s .pre .0 .accepted, (l .loop .inv .old-below, (s .pre .1 .0 (l .loop .i), (l .loop .inv .new-below, omega arith))))
+    (s .pre .0 .accepted, (l .loop .inv .old-below, (s .pre .0 .below (l .loop .i), (l .loop .inv .new-below, omega arith))))
 
 returns : tie.Need-returns Inv-loop μ-loop
 returns c =
@@ -80,15 +59,8 @@ returns c =
     let taken = next .before .before in
     let l = taken .before in
     let s = l .before .before in
-    changes (s .args .pace .road) (s .pre .0 .accepted) (s .args .up) (s .args .down) (s .args .x .now)
-    (l .loop .old-left) (l .loop .new-left) (l .loop .inflow) (l .loop .i) (l .loop .inv) (next .density-at .result) (flow .flow .result)
+    changes (s .pre .0 .accepted) (l .loop .inv)
     (taken .loop-test .taken) (next .density-at .ensures) (flow .flow .ensures) (sym (kept .keeps-letter .ensures) ∙ not-true (kept .keeps-letter .result) (c .if1 .taken))
-
-add-i : tie.Need-add-i Inv-loop μ-loop
-add-i c = search needs
-
-loop-less : tie.Need-loop-less Inv-loop μ-loop
-loop-less c = search needs
 
 loop-again : tie.Need-loop-again Inv-loop μ-loop
 loop-again c =
@@ -98,24 +70,15 @@ loop-again c =
     let taken = next .before .before in
     let l = taken .before in
     let s = l .before .before in
-    turns (s .args .pace .road) (s .pre .0 .accepted) (s .args .up) (s .args .down) (s .args .x .now)
-    (l .loop .old-left) (l .loop .new-left) (l .loop .inflow) (l .loop .i) (l .loop .inv) (next .density-at .result) (flow .flow .result)
-    (taken .loop-test .taken) (next .density-at .ensures) (flow .flow .ensures) (sym (kept .keeps-letter .ensures) ∙ not-false (kept .keeps-letter .result) (c .if1 .left)) (s .pre .1 .0)
-
-keeps-letter-requires-2 : tie.Need-keeps-letter-requires-2 Inv-loop μ-loop
-keeps-letter-requires-2 c κs =
-    let l = c .before in
-    let s = l .before .before in
-    let down = s .pre .1 .1 .1 .0 in
-    (s .pre .0 .accepted, (l .loop .inv .old-below, (down, (l .loop .inv .new-below, down))))
+    turns (s .pre .0 .accepted) (l .loop .inv)
+    (taken .loop-test .taken) (next .density-at .ensures) (flow .flow .ensures) (sym (kept .keeps-letter .ensures) ∙ not-false (kept .keeps-letter .result) (c .if1 .left)) (s .pre .0 .below)
 
 returns-2 : tie.Need-returns-2 Inv-loop μ-loop
 returns-2 c =
     let l = c .before .before in
     let s = l .before .before in
     c .keeps-letter2 .ensures
-    ∙ ends (s .args .pace .road) (s .pre .0 .accepted) (s .args .up) (s .args .down) (s .args .x .now)
-    (l .loop .old-left) (l .loop .new-left) (l .loop .inflow) (l .loop .i) (l .loop .inv) (c .before .loop-test .left)
+    ∙ ends (s .pre .0 .accepted) (l .loop .inv) (c .before .loop-test .left)
 
 pub keeps-letters-spec : {M : Type 1} → statement M
 keeps-letters-spec =
@@ -124,17 +87,17 @@ keeps-letters-spec =
     Inv-loop
     μ-loop
     loop-holds
-    mul-own
-    shared-slice-read-own
-    add-density-at
-    density-at-requires
+    (λ c. search needs)
+    (λ c. search needs)
+    (λ c. search needs)
+    (λ c κs. search needs)
     flow-requires
     add-new
     sub-new
     keeps-letter-requires
     returns
-    add-i
-    loop-less
+    (λ c. search needs)
+    (λ c. search needs)
     loop-again
-    keeps-letter-requires-2
+    (λ c κs. search needs)
     returns-2)
