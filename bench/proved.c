@@ -4,8 +4,6 @@
 #include "kernels.h"
 #include "welgadou.h"
 
-#define ROAD(r) (r)->divisor, (r)->free, (r)->wave, (r)->jam, (r)->critical
-
 static void accepted(uint32_t number, uint32_t place)
 {
     if (number != 0) {
@@ -18,8 +16,8 @@ void proved_forecast(const struct road *r, const uint32_t *x, size_t n, const ui
                             uint32_t horizon, uint32_t *out, uint64_t *entered, uint64_t *left)
 {
     uint32_t place;
-    uint32_t number = welgadou_forecast(ROAD(r), x, n, ups, horizon, downs, horizon, horizon, out, n, entered, left,
-                                        &place);
+    uint32_t number = welgadou_forecast(WELGADOU_ROAD(*r), x, n, ups, horizon, downs, horizon, horizon, out, n,
+                                        entered, left, &place);
     accepted(number, place);
 }
 
@@ -27,7 +25,7 @@ void proved_settle(const struct road *r, const uint32_t *x, size_t n, uint32_t b
                           uint32_t horizon, uint32_t *out, uint32_t *settled, uint32_t *steps)
 {
     uint32_t place;
-    uint32_t number = welgadou_settle(ROAD(r), x, n, before, after, horizon, out, n, settled, steps, &place);
+    uint32_t number = welgadou_settle(WELGADOU_ROAD(*r), x, n, before, after, horizon, out, n, settled, steps, &place);
     accepted(number, place);
 }
 
@@ -35,7 +33,8 @@ void proved_read(const struct road *r, const uint32_t *x, size_t n, uint32_t bef
                         uint8_t *letters, uint8_t *modes, uint32_t *counts, uint32_t *queued)
 {
     uint32_t place;
-    uint32_t number = welgadou_read(ROAD(r), x, n, before, after, letters, n + 1, modes, n, counts, queued, &place);
+    uint32_t number = welgadou_read(WELGADOU_ROAD(*r), x, n, before, after, letters, n + 1, modes, n, counts, queued,
+                                    &place);
     accepted(number, place);
 }
 
@@ -43,6 +42,6 @@ void proved_rows(const struct road *r, const uint32_t *x, size_t n, uint32_t bef
                         const uint8_t *letters, int64_t *out)
 {
     uint32_t place;
-    uint32_t number = welgadou_rows(ROAD(r), x, n, before, after, letters, n + 1, out, n, &place);
+    uint32_t number = welgadou_rows(WELGADOU_ROAD(*r), x, n, before, after, letters, n + 1, out, n, &place);
     accepted(number, place);
 }

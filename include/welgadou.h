@@ -2,7 +2,7 @@
  *
  * Welgadou works the triangular Godunov scheme, also called the cell transmission model, on whole numbers. This file is
  * everything that a C or C++ program needs to know of it. Link with libwelgadou.a (x86-64 Linux), which
- * `rt staticlib welgadou` writes.
+ * `rt staticlib welgadou` writes, or with what `./install PREFIX` puts in place for pkg-config.
  *
  * WHAT IS PROVED
  *
@@ -28,8 +28,9 @@
  *     move at which speed (welgadou_station_speed), without rounding; that a foreign word's number may be negative (a
  *     case).
  *   - Not proved, but read off the code and the build: which calls use floating point; what is said of null pointers,
- *     memory, other libraries and threads; that a refused call stores nothing (the contract says that the contents are
- *     the same, and of a NaN that it is still one); and where it stands in brackets.
+ *     memory, other libraries, threads and unwinding; that a refused call stores nothing (the contract says that the
+ *     contents are the same, and of a NaN that it is still one); and where it stands in brackets.
+ *   - Measured, and held to its figure by a test: the stack.
  *
  * docs/CERTIFICATE.md names the clause or theorem behind each sentence, and what the proofs rest on.
  *
@@ -39,13 +40,25 @@
  *     without a length for one value, `counts` for seven.
  *   - Memory that a call writes overlaps nothing else that the same call is given.
  *   - All of it stays valid, and no one else changes it, until the call has returned.
- *   - Floating point is in the state that a C program starts in: rounding to nearest, subnormal numbers kept. Only
- *     welgadou_candidate, welgadou_station_density, welgadou_station_flow and welgadou_station_speed use it. (Linking
- *     with -ffast-math may change that state.)
+ *   - Floating point is in the state that a C program starts in: rounding to nearest, subnormal numbers kept, no traps.
+ *     Only welgadou_candidate, welgadou_station_density, welgadou_station_flow and welgadou_station_speed use it. They
+ *     may raise any floating-point flag, accepted or refused, as a NaN raises FE_INVALID: look at no flag across them,
+ *     and have no trap enabled. (Linking with -ffast-math may change that state.)
+ *   - WELGADOU_STACK bytes of stack for a call, its arguments included. (Linked as a shared library, the first call of
+ *     each function may take more, for the dynamic linker.)
  *
  * A list of length 0 may come with a null pointer: nothing is read or written through it. Other pointers are never null.
- * Nothing else is owed. The library keeps nothing between calls, takes no memory and calls no other library, so that
+ * Nothing else is owed. The library keeps nothing between calls, takes no heap and calls no other library, so that
  * several threads may call it at once, each with memory of its own.
+ *
+ * No call throws, and none calls back. The library has no unwind tables: neither an exception, such as one thrown by a
+ * signal's handler or by the cancellation of a thread, nor a debugger finds its way out of a call that it interrupts.
+ *
+ * EXPORTED NAMES
+ *
+ * A call whose parameters change gets the next number in its exported name, and a macro here maps the plain name to it:
+ * welgadou_candidate is exported as welgadou_candidate_2. So what was compiled with an older header does not link, where
+ * it would else pass wrong arguments in silence. Write the plain names; only dlsym and a debugger want the exported ones.
  *
  * THE ROAD AND ITS UNITS
  *
@@ -122,12 +135,40 @@
 extern "C" {
 #endif
 
+/* The version of this header: ten thousand a major, a hundred a minor version. 0.2.0 is 200. */
+#define WELGADOU_VERSION 200
+
+/* Returns: the version of the library that is linked, WELGADOU_VERSION where it is the one of this header. */
+uint32_t welgadou_version(void);
+
+/* The bytes of stack that suffice for any call. */
+#define WELGADOU_STACK 512
+
 /* The letter codes of a word. */
 enum { WELGADOU_W = 0, WELGADOU_L = 1, WELGADOU_D = 2 };
 
+/* A road for a program to keep, and its five numbers in the order in which every call takes them:
+ *
+ *     const welgadou_road road = { 5, 4, 1, 1000, 200 };
+ *     number = welgadou_station_speed(WELGADOU_ROAD(road), 0.6, &estimate, &place);
+ *
+ * The calls themselves take five numbers. WELGADOU_ROAD names its argument five times: give it a variable. */
+typedef struct {
+    uint32_t divisor, free, wave, jam, critical;
+} welgadou_road;
+
+#define WELGADOU_ROAD(r) (r).divisor, (r).free, (r).wave, (r).jam, (r).critical
+
 /* ------------------------------------------------------------------------------------------------------------------
- * Ceilings: the largest values that are accepted. Ask for them; do not write them into your program.
+ * Ceilings: the largest values that are accepted. Ask the functions for them. The macros are for the sizes of arrays
+ * alone, which C fixes when it compiles: they are those of the library with this header's version.
  * ------------------------------------------------------------------------------------------------------------------ */
+
+#define WELGADOU_CELLS_CEILING 256u
+#define WELGADOU_HORIZON_CEILING 4096u
+#define WELGADOU_DIVISOR_CEILING 4096u
+#define WELGADOU_JAM_CEILING 1000000u
+#define WELGADOU_COUNT_CEILING 40u
 
 /* Returns: the largest number of cells in a list. */
 uint32_t welgadou_cells_ceiling(void);
@@ -275,14 +316,15 @@ uint32_t welgadou_rows(uint32_t divisor, uint32_t free, uint32_t wave, uint32_t 
  *
  * Returns:  0, or the number of the refusal.
  * In:       divisor, free, wave, jam, critical: the road.
- *           mode:                         1 to 7.
+ *           mode:                         1 to 7; any other number is refused, also one that a byte does not hold.
  *           left, own, right:             the estimates, each from 0 to jam, fractions allowed. -0.0 counts as 0.
  * Out:      numerator:                    the estimate of the own density after one step, times the divisor.
  *           place:                        0, or the place of the refusal.
  * Refusals: 1 to 4, 13, 14.
  */
+#define welgadou_candidate welgadou_candidate_2
 uint32_t welgadou_candidate(uint32_t divisor, uint32_t free, uint32_t wave, uint32_t jam, uint32_t critical,
-                            uint8_t mode, double left, double own, double right,
+                            uint32_t mode, double left, double own, double right,
                             double *numerator, uint32_t *place);
 
 /* Counts the legal words of a road of so many cells: the words of cells + 1 letters. From one cell on, each of them is

@@ -3,6 +3,10 @@
  *
  *     rt staticlib welgadou
  *     gcc -std=c99 -Iinclude examples/c/forecast.c target/staticlib/libwelgadou.a -o forecast
+ *
+ * or, once `./install PREFIX` has been run and pkg-config finds PREFIX/lib/pkgconfig,
+ *
+ *     gcc -std=c99 examples/c/forecast.c $(pkg-config --cflags --libs welgadou) -o forecast
  */
 #include <inttypes.h>
 #include <stdio.h>
@@ -11,9 +15,9 @@
 
 enum { CELLS = 3, STEPS = 4 };
 
-/* The road, in the order in which every call takes it: divisor, free, wave, jam, critical. Free traffic moves 4/5 of a
- * cell a step, a jam's edge 1/5 of a cell back; 1000 units fill a cell, and the flow is greatest at 200. */
-#define ROAD 5, 4, 1, 1000, 200
+/* Free traffic moves 4/5 of a cell a step, a jam's edge 1/5 of a cell back; 1000 units fill a cell, and the flow is
+ * greatest at 200. The order is divisor, free, wave, jam, critical. */
+static const welgadou_road road = { 5, 4, 1, 1000, 200 };
 
 /* The refusal table in a program's own words. */
 static const char *words(uint32_t number)
@@ -70,6 +74,10 @@ int main(void)
     uint32_t horizon;
     int i;
 
+    /* The header and the library that is linked are of one version. */
+    if (welgadou_version() != WELGADOU_VERSION)
+        return 1;
+
     /* The ceilings come from the library. */
     printf("up to %" PRIu32 " cells and %" PRIu32 " steps, divisor up to %" PRIu32 ", jam up to %" PRIu32
            ", words counted up to %" PRIu32 " cells\n",
@@ -79,8 +87,8 @@ int main(void)
     /* Level 1: the forecast, for each horizon up to the last. */
     printf("steps  cell 1, 2, 3       entered  left\n");
     for (horizon = 0; horizon <= STEPS; horizon++) {
-        number = welgadou_forecast(ROAD, cells, CELLS, upstream, horizon, downstream, horizon, horizon, out, CELLS,
-                                   &entered, &left, &place);
+        number = welgadou_forecast(WELGADOU_ROAD(road), cells, CELLS, upstream, horizon, downstream, horizon, horizon,
+                                   out, CELLS, &entered, &left, &place);
         if (refused("forecast", number, place))
             return 1;
         printf("%5" PRIu32, horizon);
@@ -89,7 +97,7 @@ int main(void)
     }
 
     /* Level 1: how the state settles with ends that stay. */
-    number = welgadou_settle(ROAD, cells, CELLS, 100, 0, 1000, out, CELLS, &settled, &steps, &place);
+    number = welgadou_settle(WELGADOU_ROAD(road), cells, CELLS, 100, 0, 1000, out, CELLS, &settled, &steps, &place);
     if (refused("settle", number, place))
         return 1;
     printf("%s after %" PRIu32 " steps:", settled ? "settled" : "unsettled", steps);
@@ -97,7 +105,8 @@ int main(void)
     printf("\n");
 
     /* Level 2: the letters of the faces and the modes of the cells. */
-    number = welgadou_read(ROAD, cells, CELLS, 100, 0, letters, CELLS + 1, modes, CELLS, counts, &queued, &place);
+    number = welgadou_read(WELGADOU_ROAD(road), cells, CELLS, 100, 0, letters, CELLS + 1, modes, CELLS, counts,
+                           &queued, &place);
     if (refused("read", number, place))
         return 1;
     printf("letters");
@@ -112,19 +121,19 @@ int main(void)
     printf(", queued %" PRIu32 "\n", queued);
 
     /* Level 2: the state fits its own word; after a change of its last letter it does not. */
-    number = welgadou_fit(ROAD, cells, CELLS, 100, 0, letters, CELLS + 1, &holds, &face, &place);
+    number = welgadou_fit(WELGADOU_ROAD(road), cells, CELLS, 100, 0, letters, CELLS + 1, &holds, &face, &place);
     if (refused("fit", number, place))
         return 1;
     printf("the state's own word: %s\n", holds ? "holds" : "does not hold");
     letters[CELLS] = WELGADOU_W;
-    number = welgadou_fit(ROAD, cells, CELLS, 100, 0, letters, CELLS + 1, &holds, &face, &place);
+    number = welgadou_fit(WELGADOU_ROAD(road), cells, CELLS, 100, 0, letters, CELLS + 1, &holds, &face, &place);
     if (refused("fit", number, place))
         return 1;
     printf("with W at the last face: %s, lowest face %" PRIu32 "\n", holds ? "holds" : "does not hold", face);
     letters[CELLS] = WELGADOU_L;
 
     /* Level 2: the unrounded next densities, times the divisor. */
-    number = welgadou_rows(ROAD, cells, CELLS, 100, 0, letters, CELLS + 1, rows, CELLS, &place);
+    number = welgadou_rows(WELGADOU_ROAD(road), cells, CELLS, 100, 0, letters, CELLS + 1, rows, CELLS, &place);
     if (refused("rows", number, place))
         return 1;
     printf("rows");
@@ -133,7 +142,7 @@ int main(void)
     printf("\n");
 
     /* Level 2: a filter tries mode 6 for cell 1 with estimates of its own. */
-    number = welgadou_candidate(ROAD, 6, 100.25, 299.5, 150.0, &numerator, &place);
+    number = welgadou_candidate(WELGADOU_ROAD(road), 6, 100.25, 299.5, 150.0, &numerator, &place);
     if (refused("candidate", number, place))
         return 1;
     printf("candidate %.2f\n", numerator);
@@ -145,15 +154,15 @@ int main(void)
     printf("legal words of %d cells: %" PRIu64 "\n", CELLS, legal);
 
     /* Level 3: a station gives a density, or a flow with a speed, or a speed alone. */
-    number = welgadou_station_density(ROAD, 250.5, &estimate, &place);
+    number = welgadou_station_density(WELGADOU_ROAD(road), 250.5, &estimate, &place);
     if (refused("station density", number, place))
         return 1;
     printf("station estimates %.2f", estimate);
-    number = welgadou_station_flow(ROAD, 80, 0.8, &estimate, &place);
+    number = welgadou_station_flow(WELGADOU_ROAD(road), 80, 0.8, &estimate, &place);
     if (refused("station flow", number, place))
         return 1;
     printf(" %.2f", estimate);
-    number = welgadou_station_speed(ROAD, 0.6, &estimate, &place);
+    number = welgadou_station_speed(WELGADOU_ROAD(road), 0.6, &estimate, &place);
     if (refused("station speed", number, place))
         return 1;
     printf(" %.2f\n", estimate);
@@ -161,6 +170,6 @@ int main(void)
     /* A refusal: D may not follow W. */
     letters[1] = WELGADOU_W;
     letters[2] = WELGADOU_D;
-    number = welgadou_rows(ROAD, cells, CELLS, 100, 0, letters, CELLS + 1, rows, CELLS, &place);
+    number = welgadou_rows(WELGADOU_ROAD(road), cells, CELLS, 100, 0, letters, CELLS + 1, rows, CELLS, &place);
     return refused("rows", number, place) ? 0 : 1;
 }

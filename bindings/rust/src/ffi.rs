@@ -2,13 +2,17 @@
 //!
 //! Why every call is safe: a slice stands for as many valid values as its length says, a `&mut` for one; nothing that is
 //! borrowed by `&mut` overlaps another argument; and the borrows last until the call returns. That is all the archive
-//! asks of a caller in memory. What it asks of floating point (rounding to nearest, subnormals kept) is the state that
-//! Rust code runs in. Any value is then a valid input: the archive judges it by itself.
+//! asks of a caller in memory. What it asks of floating point (rounding to nearest, subnormals kept, no traps) is the
+//! state that Rust code runs in. Any value is then a valid input: the archive judges it by itself.
+//!
+//! The number in a `link_name` rises with each change of a call's parameters, so that a declaration from before such a
+//! change does not link.
 
 use crate::{Refusal, Road};
 
 #[rustfmt::skip]
 extern "C" {
+    fn welgadou_version() -> u32;
     fn welgadou_cells_ceiling() -> u32;
     fn welgadou_horizon_ceiling() -> u32;
     fn welgadou_divisor_ceiling() -> u32;
@@ -39,8 +43,9 @@ extern "C" {
         upstream: u32, downstream: u32, word: *const u8, word_len: usize, out: *mut i64, out_len: usize,
         place: *mut u32,
     ) -> u32;
+    #[link_name = "welgadou_candidate_2"]
     fn welgadou_candidate(
-        divisor: u32, free: u32, wave: u32, jam: u32, critical: u32, mode: u8, left: f64, own: f64, right: f64,
+        divisor: u32, free: u32, wave: u32, jam: u32, critical: u32, mode: u32, left: f64, own: f64, right: f64,
         numerator: *mut f64, place: *mut u32,
     ) -> u32;
     fn welgadou_count(cells: u32, words: *mut u64, place: *mut u32) -> u32;
@@ -65,6 +70,11 @@ fn judged(number: u32, place: u32) -> Result<(), Refusal> {
     } else {
         Err(Refusal { number, place })
     }
+}
+
+pub(crate) fn version() -> u32 {
+    // SAFETY: no argument.
+    unsafe { welgadou_version() }
 }
 
 pub(crate) fn cells_ceiling() -> u32 {
@@ -218,7 +228,7 @@ pub(crate) fn candidate(
     #[rustfmt::skip]
     let number = unsafe {
         welgadou_candidate(
-            r.divisor, r.free, r.wave, r.jam, r.critical, mode, left, own, right, numerator, &mut place,
+            r.divisor, r.free, r.wave, r.jam, r.critical, u32::from(mode), left, own, right, numerator, &mut place,
         )
     };
     judged(number, place)

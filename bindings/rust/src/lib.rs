@@ -6,8 +6,8 @@
 //! cell, face, letter, word, mode and station mean, stands in `include/welgadou.h`; this crate adds types and nothing
 //! else.
 //!
-//! Build the archive with `rt staticlib welgadou`. A program outside of the repository sets `WELGADOU_LIB_DIR` to the
-//! folder in which it keeps `libwelgadou.a`.
+//! Build the archive with `rt staticlib welgadou` in the repository, or set `WELGADOU_LIB_DIR` to the folder, by its
+//! absolute path, in which you keep `libwelgadou.a`.
 //!
 //! ```
 //! use welgadou::{forecast, Road};
@@ -36,6 +36,16 @@ pub use level2::{candidate, count, fit, read, rows, Counts, Fit};
 pub use level3::{station, StationReading};
 pub use refusal::Refusal;
 pub use road::Road;
+
+/// The version of the archive that is linked, as one number: ten thousand a major, a hundred a minor version.
+///
+/// ```
+/// let version = welgadou::version();
+/// println!("welgadou {}.{}.{}", version / 10_000, version / 100 % 100, version % 100);
+/// ```
+pub fn version() -> u32 {
+    ffi::version()
+}
 
 /// The README's example, run with the documentation's.
 #[cfg(doctest)]

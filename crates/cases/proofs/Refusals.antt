@@ -1,7 +1,7 @@
 -- Every number of the refusal table, computed from the definitions.
-use mathlib.Core.Path.{refl}
+use mathlib.Core.Path.{refl, ap₂}
 use lib.Ieee.{round, sum, add, mul, div, lt, eq, le, ne, ofInt, ofBits}
-use Rattle.road.specs.Table.{orIf}
+use Rattle.road.specs.Table.{refused, orIf}
 use Rattle.road.specs.Judgement.{roadRefusal}
 use Rattle.checks.specs.Values.{firstAbove}
 use Rattle.forecast.specs.Forecast.{forecastRefusal, forecastAnswer}
@@ -11,13 +11,13 @@ use Rattle.modes.specs.Judging.{readRefusal, fitRefusal, predictRefusal}
 use Rattle.modes.specs.Reading.{readAnswer}
 use Rattle.modes.specs.Fit.{fitAnswer}
 use Rattle.modes.specs.Prediction.{predictAnswer}
-use Rattle.modes.specs.Candidate.{candidateRefusal, candidateAnswer}
+use Rattle.modes.specs.Candidate.{candidateRefusal, candidateAnswer, candidateMeaning}
 use Rattle.modes.specs.Count.{countRefusal, countAnswer}
 use Rattle.site.specs.Station.{speedDensity, estimateOf, badNumber, badGiven, tooFast, stationRefusal, stationAnswer}
 use Rattle.cases.specs.Refusals.{Refusals}
 
 pub refusals : Refusals
-unfolding round sum add mul div lt eq le ne ofInt ofBits orIf roadRefusal firstAbove forecastRefusal forecastAnswer settleRefusal settleAnswer illegalPair offends firstOffence legal readRefusal fitRefusal predictRefusal readAnswer fitAnswer predictAnswer candidateRefusal candidateAnswer countRefusal countAnswer speedDensity estimateOf badNumber badGiven tooFast stationRefusal stationAnswer
+unfolding round sum add mul div lt eq le ne ofInt ofBits orIf roadRefusal firstAbove forecastRefusal forecastAnswer settleRefusal settleAnswer illegalPair offends firstOffence legal readRefusal fitRefusal predictRefusal readAnswer fitAnswer predictAnswer candidateRefusal candidateAnswer candidateMeaning countRefusal countAnswer speedDensity estimateOf badNumber badGiven tooFast stationRefusal stationAnswer
 refusals = record {
   road-1 = refl;
   road-2 = refl;
@@ -87,6 +87,7 @@ refusals = record {
   candidate-4 = refl;
   candidate-13-low = refl;
   candidate-13-high = refl;
+  welgadou-candidate-13 = λ c. ap₂ refused (c .returned) (c .placed);
   candidate-14-left = refl;
   candidate-14-own = refl;
   candidate-14-right = refl;

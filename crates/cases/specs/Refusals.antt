@@ -29,6 +29,7 @@ use Rattle.modes.specs.declared.counting.CountAnswer.the-variants as Count
 use Rattle.site.specs.Station.{whole, stationAnswer}
 use Rattle.site.specs.declared.stations.StationReading.the-variants.{Density, FlowAndSpeed, Speed}
 use Rattle.site.specs.declared.stations.StationAnswer.the-variants as Station
+use Rattle.welgadou.specs.Level2.{CandidatePredicted}
 use Rattle.cases.specs.Starred.{roadA, three}
 use Rattle.cases.specs.Requests.{four-fifths}
 use Rattle.cases.specs.Witnesses.{road, ups, downs, ownWord}
@@ -146,6 +147,9 @@ pub record Refusals : Type 0 where
   pub candidate-4 : candidateAnswer road4 6 (whole 100) (whole 300) (whole 150) ≡ Candidate.Refused (refused 4 0)
   pub candidate-13-low : candidateAnswer roadA 0 (whole 100) (whole 300) (whole 150) ≡ Candidate.Refused (refused 13 0)
   pub candidate-13-high : candidateAnswer roadA 8 (whole 100) (whole 300) (whole 150) ≡ Candidate.Refused (refused 13 0)
+  -- 257, whose lowest byte would be mode 1, fits the C call's mode alone: its contract gives it 13
+  pub welgadou-candidate-13 : {former next : Float} {place number : ℕ}
+      → CandidatePredicted roadA 257 (whole 100) (whole 300) (whole 150) former next place number → refused number place ≡ refused 13 0
   pub candidate-14-left : candidateAnswer roadA 6 nan nan nan ≡ Candidate.Refused (refused 14 1)
   pub candidate-14-own : candidateAnswer roadA 6 (whole 100) −1·0 −1·0 ≡ Candidate.Refused (refused 14 2)
   pub candidate-14-right : candidateAnswer roadA 6 (whole 100) (whole 300) (whole 1001) ≡ Candidate.Refused (refused 14 3)

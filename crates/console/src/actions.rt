@@ -1,72 +1,63 @@
 // The actions of a text, in a fixed order.
-use super::candidates;
-use super::counts;
-use super::fits;
-use super::forecasts;
-use super::keys;
-use super::keys::is_given;
-use super::options::Options;
-use super::readings;
-use super::rows;
-use super::settlings;
 use super::stations;
+use arguments::options::Options;
+use printing::page;
+use printing::page::Page;
+use reports::candidates;
+use reports::counts;
+use reports::fits;
+use reports::readings;
+use reports::rows;
+use request::keys;
+use request::keys::is_given;
+use request::status;
+use request::status::worst;
+use runs::forecasts;
+use runs::settlings;
 
-fn forecast(o: Options, text: &[u8]) {
-    if is_given(text, keys::FORECAST) {
-        forecasts::act(o, text);
+// One action of the text, by its key's code (request::keys); the status.
+fn done(page: &mut Page, o: Options, text: &[u8], action: u8) -> u8 {
+    match action {
+        10 => forecasts::act(page, o, text),
+        11 => settlings::act(page, o.lines, text),
+        12 => readings::act(page, o.lines, text),
+        13 => fits::act(page, o.lines, text),
+        14 => rows::act(page, o.lines, text),
+        15 => candidates::act(page, o.lines, text),
+        16 => counts::act(page, o.lines, text),
+        22 => readings::act_on_last(page, o.lines, text),
+        _ => stations::act(page, o.lines, text),
     }
 }
 
-fn settle(o: Options, text: &[u8]) {
-    if is_given(text, keys::SETTLE) {
-        settlings::act(o.lines, text);
+// An action where the text asks for it; the status. What it wrote goes out before the next one begins.
+fn asked(page: &mut Page, o: Options, text: &[u8], action: u8) -> u8 {
+    if !is_given(text, action) {
+        return status::DONE;
     }
+    let status = done(page, o, text, action);
+    page::sent(page);
+    status
 }
 
-fn read(o: Options, text: &[u8]) {
-    if is_given(text, keys::READ) {
-        readings::act(o.lines, text);
+// All actions that the text asks for; the worst status.
+pub fn all(page: &mut Page, o: Options, text: &[u8]) -> u8 {
+    let order = [
+        keys::FORECAST,
+        keys::SETTLE,
+        keys::READ,
+        keys::READLAST,
+        keys::FIT,
+        keys::ROWS,
+        keys::CANDIDATE,
+        keys::COUNT,
+        keys::STATION,
+    ];
+    let mut status = status::DONE;
+    let mut i = 0;
+    while i < 9 {
+        status = worst(status, asked(page, o, text, order[i]));
+        i += 1;
     }
-}
-
-fn fit(o: Options, text: &[u8]) {
-    if is_given(text, keys::FIT) {
-        fits::act(o.lines, text);
-    }
-}
-
-fn predict(o: Options, text: &[u8]) {
-    if is_given(text, keys::ROWS) {
-        rows::act(o.lines, text);
-    }
-}
-
-fn candidate(o: Options, text: &[u8]) {
-    if is_given(text, keys::CANDIDATE) {
-        candidates::act(o.lines, text);
-    }
-}
-
-fn count(o: Options, text: &[u8]) {
-    if is_given(text, keys::COUNT) {
-        counts::act(o.lines, text);
-    }
-}
-
-fn station(o: Options, text: &[u8]) {
-    if is_given(text, keys::STATION) {
-        stations::act(o.lines, text);
-    }
-}
-
-// All actions that the text asks for.
-pub fn all(o: Options, text: &[u8]) {
-    forecast(o, text);
-    settle(o, text);
-    read(o, text);
-    fit(o, text);
-    predict(o, text);
-    candidate(o, text);
-    count(o, text);
-    station(o, text);
+    status
 }

@@ -1,59 +1,98 @@
-// The command line: reads a scenario, judges it, and then does what its keys ask.
+// The command line: reads a scenario, judges it, and then does what its keys ask. What it did is its status (status.rt).
 mod actions;
-mod buffers;
-mod candidates;
-mod counts;
-mod doubles;
-mod errors;
-mod fits;
-mod forecasts;
-mod input;
-mod keys;
-mod lists;
-mod needs;
-mod numbers;
-mod options;
-mod pictures;
-mod readings;
-mod refusals;
-mod rows;
-mod say;
-mod settlings;
 mod stations;
-mod usage;
 
-use options::Options;
+use arguments::options;
+use arguments::options::Options;
+use arguments::usage;
+use arguments::words;
+use intake::errors;
+use intake::input;
+use intake::needs;
+use printing::page;
+use printing::page::Page;
+use request::buffers;
+use request::status;
+use request::status::worst;
 
 // A good text whose actions have all that they need is acted on; anything else gets one message and no result.
-fn work(o: Options, text: &[u8]) {
+fn work(page: &mut Page, o: Options, text: &[u8]) -> u8 {
     let verdict = scenario::judge(text);
     if verdict.what != 0 {
-        errors::wrong_text(o.lines, verdict);
-        return;
+        errors::wrong_text(o.file, text, verdict);
+        return status::TEXT;
     }
-    if needs::met(o, text) {
-        actions::all(o, text);
+    if !needs::met(o, text) {
+        return status::TEXT;
+    }
+    actions::all(page, o, text)
+}
+
+// A text without the byte order mark that some editors put before it.
+fn unmarked(text: &[u8]) -> &[u8] {
+    if words::starts(text, &[0xef, 0xbb, 0xbf]) {
+        words::behind(text, 3)
+    } else {
+        text
     }
 }
 
-fn run(o: Options) {
+fn read_and_work(page: &mut Page, o: Options) -> u8 {
     let mut text = buffers::text();
     let got = input::read(o.file, &mut text);
     let n = got.count;
-    if got.ok {
-        work(o, &text[..n]);
+    if got.status != status::DONE {
+        return got.status;
+    }
+    work(page, o, unmarked(&text[..n]))
+}
+
+// What the arguments ask for; the status.
+fn asked(page: &mut Page, o: Options) -> u8 {
+    if o.help {
+        usage::help(page);
+        status::DONE
+    } else if o.version {
+        usage::version(page);
+        status::DONE
+    } else if o.bad != 0 {
+        usage::refused(o.bad);
+        status::TEXT
+    } else if o.expects {
+        usage::without_path();
+        status::TEXT
+    } else if o.pathless {
+        usage::without_path();
+        status::TEXT
+    } else {
+        read_and_work(page, o)
+    }
+}
+
+// Where the results go: where a picture goes to standard output, they do not.
+fn results(o: Options) -> u8 {
+    if o.to_output {
+        page::ERRORS
+    } else {
+        page::OUTPUT
+    }
+}
+
+// The status of the whole run, lost output included.
+fn run(o: Options) -> u8 {
+    let mut page = page::open(results(o));
+    let status = asked(&mut page, o);
+    if page::sent(&mut page) {
+        status
+    } else {
+        worst(status, status::FILE)
     }
 }
 
 fn main() {
     let o = options::parsed();
-    if o.help {
-        usage::print();
-    } else if o.bad != 0 {
-        usage::refused(o.bad);
-    } else if o.expects {
-        usage::without_path();
-    } else {
-        run(o);
+    let status = run(o);
+    if o.reports {
+        status::report(status);
     }
 }

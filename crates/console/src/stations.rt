@@ -1,11 +1,14 @@
 // The density estimate of a station's reading.
-use super::doubles;
-use super::doubles::Integer;
-use super::keys;
-use super::keys::is_given;
-use super::numbers;
-use super::refusals;
-use super::say;
+use printing::doubles;
+use printing::doubles::Integer;
+use printing::page::Page;
+use printing::say;
+use request::keys;
+use request::keys::is_given;
+use request::numbers;
+use request::refusals;
+use request::refusals::Input;
+use request::status;
 use road::Road;
 use site::StationAnswer;
 use site::StationReading;
@@ -24,49 +27,58 @@ fn reading(text: &[u8]) -> StationReading {
     }
 }
 
-// A number of thousandths as a decimal.
-fn decimal(thousandths: u64) {
-    say::number(thousandths / 1000);
-    say::text(b".");
-    say::number(thousandths / 100 % 10);
-    say::number(thousandths / 10 % 10);
-    say::number(thousandths % 10);
+// A number of thousandths as a decimal, after its name.
+fn decimal(page: &mut Page, thousandths: u64) {
+    say::print(
+        page,
+        b"  estimate about %.%%%\n",
+        &[
+            thousandths / 1000,
+            thousandths / 100 % 10,
+            thousandths / 10 % 10,
+            thousandths % 10,
+        ],
+    );
 }
 
-fn rounded(x: f64) {
+fn rounded(page: &mut Page, x: f64) {
     if let Integer::Is(n) = doubles::truncated(x * 1000.0 + 0.5) {
-        say::text(b"  estimate about ");
-        decimal(say::size(n));
-        say::text(b"\n");
+        decimal(page, say::size(n));
     }
 }
 
 // For a person, an estimate that is not whole, to three decimals.
-fn about(x: f64) {
+fn about(page: &mut Page, x: f64) {
     if let Integer::Nothing = doubles::whole(x) {
-        rounded(x);
+        rounded(page, x);
     }
 }
 
-fn report(lines: bool, x: f64) {
+fn report(page: &mut Page, lines: bool, x: f64) {
     if lines {
-        say::text(b"done station ");
-        doubles::print(lines, b"estimate", x);
+        say::text(page, b"done station ");
+        doubles::print(page, true, b"estimate", x);
     } else {
-        say::text(b"station\n");
-        doubles::print(lines, b"estimate", x);
-        about(x);
+        say::text(page, b"station\n");
+        doubles::print(page, false, b"estimate", x);
+        about(page, x);
     }
 }
 
-fn made(lines: bool, road: Road, reading: StationReading) {
+fn made(page: &mut Page, lines: bool, road: Road, reading: StationReading) -> u8 {
     match site::station(road, reading) {
-        StationAnswer::Done(e) => report(lines, e.density),
-        StationAnswer::Refused(f) => refusals::print(lines, keys::STATION, f, 0),
+        StationAnswer::Done(e) => {
+            report(page, lines, e.density);
+            status::DONE
+        }
+        StationAnswer::Refused(f) => {
+            refusals::print(page, lines, keys::STATION, f, Input::of_cells(0));
+            status::REFUSED
+        }
     }
 }
 
-// The station of a text.
-pub fn act(lines: bool, text: &[u8]) {
-    made(lines, numbers::road(text), reading(text));
+// The station of a text; the status.
+pub fn act(page: &mut Page, lines: bool, text: &[u8]) -> u8 {
+    made(page, lines, numbers::road(text), reading(text))
 }

@@ -1,22 +1,25 @@
 -- The candidate's answers, accepted and refused; the numerator is never −0.0, and on whole estimates it is the whole row's value.
 use mathlib.Core.Path.{_≡_, _∙_, refl, sym, ap, subst}
 use mathlib.Core.Bool.{Bool, true, false, true≢false}
-use Prim.Native.Nat.{ℕ, _+_, _*_, _^_, _≤_}
+use mathlib.Core.List.{[], _∷_, _++_}
+use Prim.Native.Nat.{ℕ, _+_, _*_, _^_, _≤_, _<_}
 use native.Mathlib.Nat.{le-trans, mul-le-mul}
 use native.Mathlib.Omega.{arith}
+use borrow.Author.Tests.{ne-eqb, lt-ltb, le-ltb}
 use lib.Dec.{lit≤}
 use lib.IntN.{ℤ, pos, natAbs}
 use lib.Ieee.{Float, fin, binary64, prec, ne, lt, ofInt, ofBits}
 use lib.Ieee.Fits.{add-fits}
 use Rattle.road.specs.Choice.{pick, or}
 use Rattle.road.specs.Ceilings.{divisorCeiling}
-use Rattle.road.specs.Judgement.{Accepted}
+use Rattle.road.specs.Table.{row, judge}
+use Rattle.road.specs.Judgement.{Accepted, outside, roadRows}
 use Rattle.road.specs.declared.Road.{Road}
 use Rattle.road.specs.declared.refusal.Refusal.{Refusal}
 use Rattle.road.proofs.Table.{_&_}
 use Rattle.road.proofs.Acceptance.{accepted-by, road-passes}
 use Rattle.road.proofs.Choice.{or-left, or-right, neither, from-low, to-high, inside}
-use Rattle.road.proofs.Calls.{Call, refuses, accepts}
+use Rattle.road.proofs.Calls.{Call, checked, refuses, accepts}
 use Rattle.floats.specs.Worth.{Worth, FiniteUpTo, Passes}
 use Rattle.floats.proofs.Round.{ofInt-worth}
 use Rattle.floats.proofs.Row.{row-exact}
@@ -199,3 +202,22 @@ module _ (r : Road) (mode : ℕ) (left own right : Float) where
         exact = λ p q l o t l-is o-is t-is. rw (sym (same-numerator q) ∙ is) (whole-row r mode left own right (k .checked) l o t l-is o-is t-is);
         plain = λ p q. rw (sym (same-numerator q) ∙ is) (never-minus-zero r mode left own right (k .checked));
       }
+
+-- a number above 7 is no mode, whichever it is: what is promised of one is promised of any other
+module _ (r : Road) (mode other : ℕ) (left own right : Float) (above : 7 < mode) (other-above : 7 < other) where
+  no-mode-refused : C.candidateRefusal r mode left own right .number ≡ 0 → ⊥
+  no-mode-refused e = let k = checked (candidate-call r mode left own right) e in omega arith
+
+  same-refusal : C.candidateRefusal r other left own right ≡ C.candidateRefusal r mode left own right
+  unfolding C.candidateRefusal
+  same-refusal = ap (λ (b : Bool). judge (roadRows r ++ (row b 13 0 ∷ C.estimatesRow r left own right ∷ []))) (beyond other other-above ∙ sym (beyond mode above))
+    where
+      beyond : (m : ℕ) → 7 < m → outside 1 7 m ≡ true
+      beyond m h = rw (le-ltb m 1 (omega arith), lt-ltb 7 m h)
+
+  pub no-mode-alike : {a : CandidateAnswer} → C.Candidates r other left own right a → C.Candidates r mode left own right a
+  unfolding C.candidateAnswer
+  no-mode-alike {a} c =
+      let f = C.candidateRefusal r mode left own right in
+      let is : a ≡ Refused f = c .answer ∙ rw (same-refusal, ne-eqb (f .number) 0 no-mode-refused) refl in
+      subst (C.Candidates r mode left own right) (sym is) (candidate-refused r mode left own right f refl no-mode-refused)

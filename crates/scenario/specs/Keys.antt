@@ -2,13 +2,13 @@
 use mathlib.Core.Bool.{Bool, true, false}
 use mathlib.Core.List.{List, [], _∷_}
 use Prim.Native.Nat.{ℕ, suc, _+_}
-use lib.Dec.{eqb, leb}
+use lib.Dec.{eqb, leb, ltb}
 use lib.ListN.{getD}
 use Rattle.road.specs.Choice.{pick, or, both}
 
 -- how many keywords there are
 abbrev pub keyCount : ℕ
-keyCount = 22
+keyCount = 23
 
 -- the keywords in ASCII, padded with blanks to ten letters; a key's code is its place, from 0
 unfoldable pub names : List (List ℕ)
@@ -34,12 +34,17 @@ names =
     ∷ (99 ∷ 97 ∷ 110 ∷ 100 ∷ 105 ∷ 100 ∷ 97 ∷ 116 ∷ 101 ∷ 32 ∷ [])
     ∷ (99 ∷ 111 ∷ 117 ∷ 110 ∷ 116 ∷ 32 ∷ 32 ∷ 32 ∷ 32 ∷ 32 ∷ [])
     ∷ (101 ∷ 110 ∷ 100 ∷ 32 ∷ 32 ∷ 32 ∷ 32 ∷ 32 ∷ 32 ∷ 32 ∷ [])
-    -- density, flow, speed, station
+    -- density, flow, speed, station, readlast
     ∷ (100 ∷ 101 ∷ 110 ∷ 115 ∷ 105 ∷ 116 ∷ 121 ∷ 32 ∷ 32 ∷ 32 ∷ [])
     ∷ (102 ∷ 108 ∷ 111 ∷ 119 ∷ 32 ∷ 32 ∷ 32 ∷ 32 ∷ 32 ∷ 32 ∷ [])
     ∷ (115 ∷ 112 ∷ 101 ∷ 101 ∷ 100 ∷ 32 ∷ 32 ∷ 32 ∷ 32 ∷ 32 ∷ [])
     ∷ (115 ∷ 116 ∷ 97 ∷ 116 ∷ 105 ∷ 111 ∷ 110 ∷ 32 ∷ 32 ∷ 32 ∷ [])
+    ∷ (114 ∷ 101 ∷ 97 ∷ 100 ∷ 108 ∷ 97 ∷ 115 ∷ 116 ∷ 32 ∷ 32 ∷ [])
     ∷ []
+
+-- a key's keyword, padded; ten blanks, which are no keyword, for what is no key
+abbrev pub nameOf : ℕ → List ℕ
+nameOf key = pick (ltb key keyCount) (getD names key []) (32 ∷ 32 ∷ 32 ∷ 32 ∷ 32 ∷ 32 ∷ 32 ∷ 32 ∷ 32 ∷ 32 ∷ [])
 
 -- whether a word, padded with blanks, is the name
 unfoldable pub isName : List ℕ → List ℕ → Bool
@@ -86,8 +91,8 @@ arities =
     ∷ 0 ∷ 1 ∷ 3 ∷ 3
     -- forecast, settle, read, fit, rows, candidate, count, end
     ∷ 0 ∷ 0 ∷ 0 ∷ 0 ∷ 0 ∷ 0 ∷ 1 ∷ 0
-    -- density, flow, speed, station
-    ∷ 2 ∷ 2 ∷ 2 ∷ 0
+    -- density, flow, speed, station, readlast
+    ∷ 2 ∷ 2 ∷ 2 ∷ 0 ∷ 0
     ∷ []
 
 abbrev pub arity : ℕ → ℕ

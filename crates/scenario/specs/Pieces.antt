@@ -7,7 +7,7 @@ use lib.ListN.{take, drop}
 use Rattle.road.specs.Choice.{pick, or}
 use Rattle.scenario.specs.declared.pieces.Part.{Part}
 
--- the marks: newline ends a line, a blank a word; # starts a comment; * stands before a run's count
+-- the marks: newline ends a line, a blank a word; # starts a comment; ^ stands before a run's count
 abbrev pub newline : ℕ
 newline = 10
 
@@ -17,8 +17,8 @@ blank = 32
 abbrev pub hash : ℕ
 hash = 35
 
-abbrev pub star : ℕ
-star = 42
+abbrev pub caret : ℕ
+caret = 94
 
 -- space, tab and carriage return are blanks
 abbrev pub isBlank : ℕ → Bool

@@ -5,7 +5,7 @@ use Prim.Native.Nat.{ℕ, zero, suc, _+_, min}
 use lib.Dec.{eqb, ltb}
 use lib.ListN.{length, getD, take, drop, set}
 use Rattle.road.specs.Choice.{pick}
-use Rattle.scenario.specs.Pieces.{star, before, lines, words}
+use Rattle.scenario.specs.Pieces.{caret, before, lines, words}
 use Rattle.scenario.specs.Numbers.{notANumber, numberOf}
 use Rattle.scenario.specs.Keys.{keyCode, keyOf, isList, mostOf}
 use Rattle.scenario.specs.declared.numbers.Number.{Number}
@@ -40,11 +40,11 @@ timesOf plain times =
 abbrev pub once : Number
 once = record { what = 0; value = 1 }
 
--- a run N*K, or a value that stands once
+-- a run N^K, or a value that stands once
 abbrev pub runOf : ℕ → List ℕ → Item
 runOf key w =
-    pick (ltb (before star w) (length w))
-    (timesOf (plainOf key (take (before star w) w)) (numberOf 4294967295 (drop (before star w + 1) w)))
+    pick (ltb (before caret w) (length w))
+    (timesOf (plainOf key (take (before caret w) w)) (numberOf 4294967295 (drop (before caret w + 1) w)))
     (timesOf (plainOf key w) once)
 
 -- a word of a line as a value: in a list it may be a run

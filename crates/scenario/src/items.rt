@@ -5,7 +5,7 @@ use super::keys::is_list;
 use super::keys::most_of;
 use super::numbers::Number;
 use super::numbers::number_of;
-use super::pieces::STAR;
+use super::pieces::CARET;
 use super::pieces::piece_end;
 
 // A value and how often it stands; what is wrong with it, and then no value.
@@ -88,14 +88,14 @@ fn single(key: u8, word: &[u8]) -> Item
     taken(plain(key, word), Number { what: 0, value: 1 })
 }
 
-// Internal: a run N*K, or a value that stands once.
+// Internal: a run N^K, or a value that stands once.
 fn run(key: u8, word: &[u8]) -> Item
     ensures { λ x. ⌜ x ≡ runOf key (now (word .entry)) ⌝ }
 {
-    let star = piece_end(word, 0, STAR);
-    if star < word.len() {
-        let value = plain(key, &word[..star]);
-        let count = number_of(&word[star + 1..], 4294967295);
+    let mark = piece_end(word, 0, CARET);
+    if mark < word.len() {
+        let value = plain(key, &word[..mark]);
+        let count = number_of(&word[mark + 1..], 4294967295);
         taken(value, count)
     } else {
         single(key, word)

@@ -35,8 +35,8 @@ pub struct Progress {
 // The longest line.
 const LINE: usize = 4096;
 
-// Internal: what is wrong with one word as a value; nothing with an empty one.
-fn wrong_word(word: &[u8], key: u8) -> u32
+// What is wrong with one word as a value of a key (3 or 4, as in a verdict; 0: nothing); nothing with an empty one.
+pub fn wrong_word(word: &[u8], key: u8) -> u32
     ensures { λ w. ⌜ w ≡ wrongValue key (filledPiece (now (word .entry))) ⌝ }
 {
     if word.len() == 0 {

@@ -3,10 +3,10 @@ ghost use mathlib.Core.Path.{_≡_};
 ghost use Prim.Native.Nat.{_<_};
 ghost use lib.ListN.{getD};
 ghost use mathlib.Core.List.{[]};
-ghost use Rattle.scenario.specs.Keys.{keyCount, names, isName, keyCode, isList, arity, mostOf};
+ghost use Rattle.scenario.specs.Keys.{keyCount, names, nameOf, isName, keyCode, isList, arity, mostOf};
 
 // How many keywords there are: a new one is one more here, and a row at the end of each of the two tables.
-const KEYS: usize = 22;
+const KEYS: usize = 23;
 
 // The keywords in ASCII, padded with blanks to ten letters; a key's code is its place. No other keyword starts
 // with `end`: a text cut off within a keyword has no `end`.
@@ -33,6 +33,7 @@ const NAMES: [[u8; 10]; KEYS] = [
     *b"flow      ",
     *b"speed     ",
     *b"station   ",
+    *b"readlast  ",
 ];
 
 // How many values a line of each key takes; a list's line takes one or more, and has 0 here.
@@ -59,6 +60,7 @@ const ARITIES: [usize; KEYS] = [
     2, // flow
     2, // speed
     0, // station
+    0, // readlast
 ];
 
 pub const END: u8 = 17;
@@ -70,6 +72,14 @@ pub const NO_KEY: u8 = UNKNOWN + 1;
 
 // How many codes a line's key may have.
 pub const CODES: usize = KEYS + 2;
+
+// A key's keyword, padded with blanks to ten letters; blanks alone for what is no key.
+pub fn name_of(key: u8) -> [u8; 10]
+    ensures { λ r. ⌜ r ≡ nameOf key ⌝ }
+{
+    let k = key as usize;
+    if k < KEYS { NAMES[k] } else { *b"          " }
+}
 
 // Internal: a letter of a word, or a blank after its end.
 fn letter_at(word: &[u8], i: usize) -> u8

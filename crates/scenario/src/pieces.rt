@@ -11,7 +11,7 @@ pub const BLANK: u8 = 32;
 
 pub const HASH: u8 = 35;
 
-pub const STAR: u8 = 42;
+pub const CARET: u8 = 94;
 
 // A part of a text, from start up to end.
 pub struct Part {

@@ -1,7 +1,9 @@
 -- From an answer of Level 2 to what its C call returns and writes.
 use mathlib.Core.Path.{_≡_, _∙_, refl, sym, ap, subst}
 use mathlib.Core.List.{List}
-use Prim.Native.Nat.{ℕ}
+use Prim.Native.Nat.{ℕ, _≤_, _<_}
+use native.Mathlib.Omega.{arith}
+use native.Mathlib.Decide.{decLe}
 use lib.IntN.{ℤ}
 use lib.Ieee.{Float}
 use lib.ListN.{length}
@@ -31,7 +33,8 @@ use Rattle.modes.specs.Candidate as Candidate
 use Rattle.modes.specs.Candidate.{candidateAnswer, candidateMeaning, CandidateJudged}
 use Rattle.modes.specs.Count as Count
 use Rattle.modes.specs.Count.{countAnswer, countMeaning, CountJudged}
-use Rattle.welgadou.specs.Parts.{flagOf}
+use Rattle.modes.proofs.CandidateAnswers.{no-mode-alike}
+use Rattle.welgadou.specs.Parts.{flagOf, ModeByte}
 use Rattle.welgadou.specs.Level2.{StateRead, WordFitted, RowsPredicted, CandidatePredicted, WordsCounted}
 use Rattle.welgadou.proofs.Answers.{told, judged-told, refusal-counts, kept}
 
@@ -123,9 +126,19 @@ rows-answered {r = r} {cells = cells} {up = up} {down = down} {word = word} {out
       state = λ z. p .state (p .answer ∙ rw (eq-eqb _ 0 (sym number ∙ z)) refl);
     }
 
-module _ {s r : Road} {mode : ℕ} {left own right : Float} {a : CandidateAnswer} (here : s ≡ r) (called : Candidate.Candidates s mode left own right a) where
+-- what is promised of a mode's byte is promised of the whole number that it serves for
+by-byte : {r : Road} {mode byte : ℕ} {left own right : Float} {a : CandidateAnswer} → ModeByte mode byte → Candidate.Candidates r byte left own right a → Candidate.Candidates r mode left own right a
+by-byte {r} {mode} {byte} {left} {own} {right} {a} serves c = by (decLe mode 7)
+  where
+    by : Dec (mode ≤ 7) → Candidate.Candidates r mode left own right a
+    by (yes low) = subst (λ (m : ℕ). Candidate.Candidates r m left own right a) (serves .low low) c
+    by (no high) =
+        let above : 7 < mode = omega arith in
+        no-mode-alike r mode byte left own right above (serves .high above) c
+
+module _ {s r : Road} {mode byte : ℕ} {left own right : Float} {a : CandidateAnswer} (here : s ≡ r) (serves : ModeByte mode byte) (called : Candidate.Candidates s byte left own right a) where
   candidates : Candidate.Candidates r mode left own right a
-  candidates = subst (λ (x : Road). Candidate.Candidates x mode left own right a) here called
+  candidates = by-byte serves (subst (λ (x : Road). Candidate.Candidates x byte left own right a) here called)
 
   candidate-told : {b : CandidateAnswer} → a ≡ b → CandidateJudged r mode left own right (refused (Candidate.meaning b .number) (Candidate.meaning b .place))
   candidate-told e = judged-told (CandidateJudged r mode left own right) (λ (x : CandidateAnswer). refused (Candidate.meaning x .number) (Candidate.meaning x .place)) e (candidates .judged)

@@ -48,7 +48,7 @@ pub record RowsPredicted (r : Road) (cells : List ℕ) (up down : ℕ) (word : L
   pub judged : PredictJudged r cells up down word (length out) (refused number place)
   pub state : number ≡ 0 → PredictState r cells up down word next
 
--- welgadou_candidate: the numerator
+-- welgadou_candidate, exported as welgadou_candidate_2: the numerator. The mode is the whole number that C gives
 pub record CandidatePredicted (r : Road) (mode : ℕ) (left own right numerator numerator-next : Float) (place number : ℕ) : Type 0 where
   pub returned : number ≡ candidateMeaning r mode left own right .number
   pub placed : place ≡ candidateMeaning r mode left own right .place

@@ -1,6 +1,7 @@
--- What the promises of the C calls share: the road of five numbers, a pointer's contents afterwards, a flag.
+-- What the promises of the C calls share: the road of five numbers, a pointer's contents afterwards, a flag, a mode's byte.
+use mathlib.Core.Path.{_≡_}
 use mathlib.Core.Bool.{Bool}
-use Prim.Native.Nat.{ℕ}
+use Prim.Native.Nat.{ℕ, _≤_, _<_}
 use lib.Dec.{eqb}
 use Rattle.road.specs.Choice.{pick}
 use Rattle.road.specs.declared.Road.{Road}
@@ -16,3 +17,8 @@ written number value former = pick (eqb number 0) value former
 -- 1 for true, 0 for false
 abbrev pub flagOf : Bool → ℕ
 flagOf b = pick b 1 0
+
+-- a byte that serves for a mode given as a whole number: the number itself up to 7, and beyond 7 where the number is
+pub record ModeByte (mode byte : ℕ) : Type 0 where
+  pub low : mode ≤ 7 → byte ≡ mode
+  pub high : 7 < mode → 7 < byte

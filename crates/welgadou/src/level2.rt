@@ -2,6 +2,7 @@
 ghost use Rattle.welgadou.specs.Parts.{roadOf};
 ghost use Rattle.welgadou.specs.Level2.{StateRead, WordFitted, RowsPredicted, CandidatePredicted, WordsCounted};
 use super::parts::flag;
+use super::parts::mode_byte;
 use super::parts::road_of;
 use modes::CandidateAnswer;
 use modes::CountAnswer;
@@ -114,15 +115,15 @@ pub extern "C" fn welgadou_rows(
 }
 
 // 0, with the predicted numerator in `numerator` and 0 in `place`; or the refusal's number with its place, and nothing
-// else written.
+// else written. The mode is a whole number here, since C would cut a byte out of a larger one in silence.
 #[no_mangle]
-pub extern "C" fn welgadou_candidate(
+pub extern "C" fn welgadou_candidate_2(
     divisor: u32,
     free: u32,
     wave: u32,
     jam: u32,
     critical: u32,
-    mode: u8,
+    mode: u32,
     left: f64,
     own: f64,
     right: f64,
@@ -132,7 +133,7 @@ pub extern "C" fn welgadou_candidate(
     ensures { λ n. ⌜ CandidatePredicted (roadOf divisor free wave jam critical) mode left own right (now (numerator .entry)) (now (numerator .exit)) (now (place .exit)) n ⌝ }
 {
     let road = road_of(divisor, free, wave, jam, critical);
-    match modes::candidate(road, mode, left, own, right) {
+    match modes::candidate(road, mode_byte(mode), left, own, right) {
         CandidateAnswer::Done(p) => {
             *numerator = p.numerator;
             *place = 0;

@@ -1,6 +1,6 @@
-// What the C calls share: the road of five numbers, and the flag of an answer.
+// What the C calls share: the road of five numbers, the flag of an answer, and the byte of a mode.
 ghost use mathlib.Core.Path.{_≡_};
-ghost use Rattle.welgadou.specs.Parts.{roadOf, flagOf};
+ghost use Rattle.welgadou.specs.Parts.{roadOf, flagOf, ModeByte};
 use road::Road;
 
 // Internal: the road of the five numbers.
@@ -21,4 +21,11 @@ pub fn flag(b: bool) -> u32
     ensures { λ n. ⌜ n ≡ flagOf b ⌝ }
 {
     if b { 1 } else { 0 }
+}
+
+// Internal: the byte of a mode that C gives as a whole number: the number, or 255, which is no mode, where it is larger.
+pub fn mode_byte(mode: u32) -> u8
+    ensures { λ b. ⌜ ModeByte mode b ⌝ }
+{
+    if mode < 256 { mode as u8 } else { 255 }
 }

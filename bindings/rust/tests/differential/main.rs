@@ -26,6 +26,13 @@ fn pair_of(refusal: Refusal) -> Refused {
     (refusal.number, refusal.place)
 }
 
+/// The crate and the archive are of one version.
+#[test]
+fn one_version() {
+    let version = welgadou::version();
+    assert_eq!(format!("{}.{}.{}", version / 10_000, version / 100 % 100, version % 100), env!("CARGO_PKG_VERSION"));
+}
+
 /// Prints the seed of a case that panics.
 struct Case(&'static str, u64);
 
@@ -378,11 +385,11 @@ fn candidates() {
     cases("candidate", 200_000, &[1, 2, 3, 4, 13, 14], &[" negative", " not negative"], |g| {
         let mut road = random::good_road(g);
         let mut estimates = [(); 3].map(|()| random::estimate(g, &road));
-        let mut mode = g.from(1, 7) as u8;
+        let mut mode = g.from(1, 7);
         for _ in 0..faults(g) {
             match g.below(4) {
                 0 => random::damage_road(g, &mut road),
-                1 => mode = g.bits() as u8,
+                1 => mode = random::bad_mode(g),
                 _ => {
                     let i = g.below(3);
                     estimates[i] = random::bad_estimate(g, &road);
@@ -393,8 +400,11 @@ fn candidates() {
         let input = || format!("road {road:?}, mode {mode}, estimates {estimates:?}");
         assert_eq!(raw::candidate(road, mode, estimates).map(f64::to_bits), expected.map(f64::to_bits), "{}", input());
 
-        let by_rust = welgadou::candidate(&road_of(road), mode, estimates[0], estimates[1], estimates[2]);
-        assert_eq!(by_rust.map(f64::to_bits).map_err(pair_of), expected.map(f64::to_bits), "{}", input());
+        // Only C can pass a mode that a byte does not hold.
+        if let Ok(byte) = u8::try_from(mode) {
+            let by_rust = welgadou::candidate(&road_of(road), byte, estimates[0], estimates[1], estimates[2]);
+            assert_eq!(by_rust.map(f64::to_bits).map_err(pair_of), expected.map(f64::to_bits), "{}", input());
+        }
 
         if let Ok(value) = expected {
             assert!(value != 0.0 || value.is_sign_positive(), "-0.0: {}", input());
@@ -408,11 +418,12 @@ fn candidates() {
     });
 }
 
-/// Every byte as a mode.
+/// Every byte as a mode, and larger numbers, with a mode in their lowest byte or not.
 #[test]
 fn every_mode() {
     for road in random::CORNERS {
-        for mode in 0..=255 {
+        let larger = (8..32).flat_map(|bit| (0..=8).map(move |low| (1 << bit) + low));
+        for mode in (0..=255).chain(larger).chain([u32::MAX]) {
             let expected = reference::candidate(road, mode, [1.0, 0.5, 2.0]);
             assert_eq!(raw::candidate(road, mode, [1.0, 0.5, 2.0]), expected, "road {road:?}, mode {mode}");
         }

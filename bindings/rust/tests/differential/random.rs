@@ -252,6 +252,15 @@ pub fn word(g: &mut Random, road: &[u32; 5], cells: &[u32], up: u32, down: u32) 
     word
 }
 
+/// A mode that is mostly none: a byte, a mode in the lowest byte of a larger number, or any number.
+pub fn bad_mode(g: &mut Random) -> u32 {
+    match g.below(3) {
+        0 => g.bits() as u32 & 0xff,
+        1 => (g.bits() as u32 & !0xff) | g.from(1, 7),
+        _ => g.bits() as u32,
+    }
+}
+
 /// An estimate for a candidate: whole, fractional, at the border, or no density at all.
 pub fn estimate(g: &mut Random, road: &[u32; 5]) -> f64 {
     let j = f64::from(road[3]);

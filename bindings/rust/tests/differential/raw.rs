@@ -29,8 +29,9 @@ extern "C" {
         upstream: u32, downstream: u32, word: *const u8, word_len: usize, out: *mut i64, out_len: usize,
         place: *mut u32,
     ) -> u32;
+    #[link_name = "welgadou_candidate_2"]
     fn welgadou_candidate(
-        divisor: u32, free: u32, wave: u32, jam: u32, critical: u32, mode: u8, left: f64, own: f64, right: f64,
+        divisor: u32, free: u32, wave: u32, jam: u32, critical: u32, mode: u32, left: f64, own: f64, right: f64,
         numerator: *mut f64, place: *mut u32,
     ) -> u32;
     fn welgadou_count(cells: u32, words: *mut u64, place: *mut u32) -> u32;
@@ -211,7 +212,7 @@ pub fn rows(
     answer(number, place, out_buffer.untouched(), || out_buffer.contents().to_vec())
 }
 
-pub fn candidate([d, p, q, j, c]: [u32; 5], mode: u8, estimates: [f64; 3]) -> Result<f64, Refused> {
+pub fn candidate([d, p, q, j, c]: [u32; 5], mode: u32, estimates: [f64; 3]) -> Result<f64, Refused> {
     let (mut numerator, mut place) = (f64::from_bits(PATTERN), WORD);
     let [left, own, right] = estimates;
     // SAFETY: both pointers are those of local values.

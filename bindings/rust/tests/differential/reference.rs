@@ -78,7 +78,7 @@ fn row_12(n: usize, word: &[u8]) -> Option<Refused> {
     (0..word.len()).find(|&i| word[i] > 2 || (i > 0 && illegal(word[i - 1], word[i]))).map(|i| (12, i as u32))
 }
 
-fn row_13(mode: u8) -> Option<Refused> {
+fn row_13(mode: u32) -> Option<Refused> {
     (!(1..=7).contains(&mode)).then_some((13, 0))
 }
 
@@ -350,10 +350,10 @@ pub fn rows(r: [u32; 5], cells: &[u32], up: u32, down: u32, word: &[u8], out: us
     Ok((1..=n).map(|i| i64::try_from(value(i)).expect("a numerator")).collect())
 }
 
-pub fn candidate(r: [u32; 5], mode: u8, estimates: [f64; 3]) -> Result<f64, Refused> {
+pub fn candidate(r: [u32; 5], mode: u32, estimates: [f64; 3]) -> Result<f64, Refused> {
     let r = &Road::new(r);
     judge(&[row_1(r), row_2(r), row_3(r), row_4(r), row_13(mode), row_14(r, estimates)])?;
-    let [left, own, right, constant] = row(r, mode).map(|whole| whole as f64);
+    let [left, own, right, constant] = row(r, mode as u8).map(|whole| whole as f64);
     let by_left = estimates[0] * left;
     let by_own = estimates[1] * own;
     let by_right = estimates[2] * right;
@@ -363,8 +363,8 @@ pub fn candidate(r: [u32; 5], mode: u8, estimates: [f64; 3]) -> Result<f64, Refu
 }
 
 /// The whole numerator of a mode's row, where all three estimates are whole.
-pub fn whole_candidate(r: [u32; 5], mode: u8, estimates: [i128; 3]) -> i128 {
-    let [left, own, right, constant] = row(&Road::new(r), mode);
+pub fn whole_candidate(r: [u32; 5], mode: u32, estimates: [i128; 3]) -> i128 {
+    let [left, own, right, constant] = row(&Road::new(r), mode as u8);
     left * estimates[0] + own * estimates[1] + right * estimates[2] + constant
 }
 

@@ -1,4 +1,4 @@
--- `scenario::run` meets its contract: by the star.
+-- `scenario::run` meets its contract: by the caret.
 use mathlib.Core.Path.{sym}
 use native.Mathlib.Omega.{arith}
 use lib.Seq.{length-take-le}

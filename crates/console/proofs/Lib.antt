@@ -1,3 +1,0 @@
--- Facts on lists and on doubles that the program's proofs cite.
-pub mod Prefix
-pub mod Nans

@@ -1,0 +1,2 @@
+-- Facts on doubles that the proofs of printing cite.
+pub mod Nans

@@ -1,0 +1,17 @@
+-- `printing::bits` is safe: a double that equals itself is no NaN, so its bits can be read.
+use Rattle.floats.proofs.Known.{equals-itself}
+use borrow.Author.Needs.{needs}
+use Rattle.printing.proofs.doubles.bits.Statement.{statement}
+use Rattle.printing.proofs.doubles.bits.Tie as tie
+
+returns : tie.Need-returns
+returns c = search needs
+
+float-to-bits-result : tie.Need-float-to-bits-result
+float-to-bits-result c = equals-itself (c .before .args .x) (c .if1 .left)
+
+returns-2 : tie.Need-returns-2
+returns-2 c = search needs
+
+pub bits-spec : {M : Type 1} → statement M
+bits-spec = tie.close (tie.spec returns float-to-bits-result returns-2)

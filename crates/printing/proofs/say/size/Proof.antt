@@ -1,0 +1,37 @@
+-- `printing::size` is safe: every number has a size, the least one too.
+use Rattle.std.proofs.num.Nearest.{Turned, plain, turn}
+use mir.Syntax.{w64}
+use lib.Dec.{lit≤}
+use borrow.Author.Needs.{needs}
+use Rattle.printing.proofs.say.size.Statement.{statement}
+use Rattle.printing.proofs.say.size.Tie as tie
+
+-- each step to the size of a number below 0 is defined
+lower : (c : tie.Else1) → Turned w64 (c .before .args .n)
+lower c = turn w64 (c .before .args .n) (lit≤ tt) (c .before .fits .n) (c .if1 .left)
+
+cast-result : tie.Need-cast-result
+cast-result c = plain w64 (c .before .args .n) (lit≤ tt) (c .before .fits .n) (c .if1 .taken) .0
+
+add-result : tie.Need-add-result
+add-result c = lower c .0
+
+sub-result : tie.Need-sub-result
+sub-result c = lower c .1
+
+cast-result-2 : tie.Need-cast-result-2
+cast-result-2 c = lower c .2
+
+add-result-2 : tie.Need-add-result-2
+add-result-2 c = lower c .3
+
+returns : tie.Need-returns
+returns c = search needs
+
+returns-2 : tie.Need-returns-2
+returns-2 c = search needs
+
+pub size-spec : {M : Type 1} → statement M
+size-spec =
+    tie.close
+    (tie.spec cast-result add-result sub-result cast-result-2 add-result-2 returns returns-2)

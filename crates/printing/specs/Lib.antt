@@ -1,0 +1,2 @@
+-- What printing's definitions are.
+pub mod Visible

@@ -1,0 +1,79 @@
+// The candidate prediction.
+use modes::CandidateAnswer;
+use printing::doubles;
+use printing::page::Page;
+use printing::say;
+use request::keys;
+use request::numbers;
+use request::refusals;
+use request::refusals::Input;
+use request::status;
+use road::Road;
+
+// Three estimates.
+struct Estimates {
+    left: f64,
+    own: f64,
+    right: f64,
+}
+
+// Estimates that are whole decimals.
+fn whole(text: &[u8]) -> Estimates {
+    let v = numbers::three_of(text, keys::ESTIMATES);
+    Estimates {
+        left: std::num::nearest_u64_to_f64(v.left),
+        own: std::num::nearest_u64_to_f64(v.own),
+        right: std::num::nearest_u64_to_f64(v.right),
+    }
+}
+
+// Estimates given by their bits.
+fn exact(text: &[u8]) -> Estimates {
+    let v = numbers::three_of(text, keys::BITS);
+    Estimates {
+        left: doubles::of_bits(v.left),
+        own: doubles::of_bits(v.own),
+        right: doubles::of_bits(v.right),
+    }
+}
+
+fn estimated(text: &[u8]) -> Estimates {
+    if keys::is_given(text, keys::BITS) {
+        exact(text)
+    } else {
+        whole(text)
+    }
+}
+
+fn report(page: &mut Page, lines: bool, mode: u8, x: f64) {
+    if lines {
+        say::text(page, b"done candidate ");
+    } else {
+        say::print(page, b"candidate of mode %\n", &[mode as u64]);
+    }
+    doubles::print(page, lines, b"numerator", x);
+}
+
+fn made(page: &mut Page, lines: bool, road: Road, mode: u8, e: Estimates) -> u8 {
+    match modes::candidate(road, mode, e.left, e.own, e.right) {
+        CandidateAnswer::Done(p) => {
+            report(page, lines, mode, p.numerator);
+            status::DONE
+        }
+        CandidateAnswer::Refused(f) => {
+            refusals::print(page, lines, keys::CANDIDATE, f, Input::of_cells(0));
+            status::REFUSED
+        }
+    }
+}
+
+// The candidate prediction of a text; the status.
+pub fn act(page: &mut Page, lines: bool, text: &[u8]) -> u8 {
+    made(
+        page,
+        lines,
+        numbers::road(text),
+        numbers::mode(text),
+        estimated(text),
+    )
+}

@@ -1,0 +1,2 @@
+-- Facts on lists that the proofs of programs cite.
+pub mod Prefix

@@ -1,0 +1,2 @@
+-- What a request's definitions are.
+pub mod Status

@@ -1,0 +1,98 @@
+// The forecast.
+use super::pictures;
+use arguments::options::Options;
+use forecast::ForecastAnswer;
+use printing::lists;
+use printing::page;
+use printing::page::Page;
+use printing::say;
+use request::buffers;
+use request::keys;
+use request::numbers;
+use request::refusals;
+use request::refusals::Input;
+use request::status;
+use road::Road;
+use scheme::Totals;
+
+fn report(page: &mut Page, lines: bool, t: Totals, horizon: u32, cells: &[u32]) {
+    let n = cells.len() as u64;
+    if lines {
+        say::print(page, b"done forecast % % %", &[t.entered, t.left, n]);
+        lists::densities(page, true, cells);
+        page::put(page, b'\n');
+    } else {
+        say::print(
+            page,
+            b"forecast of % cell~ over % step~\n  entered %, left %\n  cells at the end\n",
+            &[n, horizon as u64, t.entered, t.left],
+        );
+        lists::densities(page, false, cells);
+    }
+}
+
+// Whether the forecast was made; printed either way.
+fn made(
+    page: &mut Page,
+    lines: bool,
+    road: Road,
+    cells: &[u32],
+    ups: &[u32],
+    downs: &[u32],
+    horizon: u32,
+    out: &mut [u32],
+) -> bool {
+    match forecast::forecast(road, cells, ups, downs, horizon, out) {
+        ForecastAnswer::Done(t) => {
+            report(page, lines, t, horizon, out);
+            true
+        }
+        ForecastAnswer::Refused(f) => {
+            let given = Input::of_forecast(cells.len(), ups.len(), downs.len(), horizon);
+            refusals::print(page, lines, keys::FORECAST, f, given);
+            false
+        }
+    }
+}
+
+// The forecast and, once it was made, its picture where one is asked for; the status.
+fn made_and_drawn(
+    page: &mut Page,
+    o: Options,
+    road: Road,
+    cells: &mut [u32],
+    ups: &[u32],
+    downs: &[u32],
+    horizon: u32,
+    out: &mut [u32],
+) -> u8 {
+    if !made(page, o.lines, road, cells, ups, downs, horizon, out) {
+        return status::REFUSED;
+    }
+    if o.picture == 0 {
+        return status::DONE;
+    }
+    pictures::act(page, o, road, cells, ups, downs, out)
+}
+
+// The forecast of a text; the status.
+pub fn act(page: &mut Page, o: Options, text: &[u8]) -> u8 {
+    let mut cells = buffers::cells();
+    let mut ups = buffers::ends();
+    let mut downs = buffers::ends();
+    let mut out = buffers::cells();
+    let n = numbers::list(text, keys::CELLS, &mut cells);
+    let u = numbers::list(text, keys::UPSTREAM, &mut ups);
+    let d = numbers::list(text, keys::DOWNSTREAM, &mut downs);
+    let m = numbers::within(n, &out);
+    made_and_drawn(
+        page,
+        o,
+        numbers::road(text),
+        &mut cells[..n],
+        &ups[..u],
+        &downs[..d],
+        numbers::one(text, keys::HORIZON),
+        &mut out[..m],
+    )
+}

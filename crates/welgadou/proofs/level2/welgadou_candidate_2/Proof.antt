@@ -1,0 +1,42 @@
+-- `welgadou_candidate_2` meets its contract: the answer below, case by case.
+use Rattle.welgadou.specs.Parts.{roadOf}
+use Rattle.welgadou.proofs.ModeAnswers.{candidate-done, candidate-refused}
+use borrow.Author.Needs.{needs}
+use Rattle.welgadou.proofs.level2.welgadou_candidate_2.Statement.{statement}
+use Rattle.welgadou.proofs.level2.welgadou_candidate_2.Tie as tie
+
+road-of-requires : tie.Need-road-of-requires
+road-of-requires c κs = search needs
+
+mode-byte-requires : tie.Need-mode-byte-requires
+mode-byte-requires c κs = search needs
+
+candidate-requires : tie.Need-candidate-requires
+candidate-requires c κs = search needs
+
+enum-known-p : tie.Need-enum-known-p
+enum-known-p c = search needs
+
+enum-known-f : tie.Need-enum-known-f
+enum-known-f c = search needs
+
+returns : tie.Need-returns
+returns c =
+    let called = c .before .before .before in
+    let byte = called .before in
+    let given = byte .before .before .args in
+    candidate-done {r = roadOf (given .divisor) (given .free) (given .wave) (given .jam) (given .critical)}
+    (byte .before .road-of .ensures) (byte .mode-byte .ensures) (called .candidate .ensures) (c .before .p .given .1)
+
+returns-2 : tie.Need-returns-2
+returns-2 c =
+    let called = c .before .before .before in
+    let byte = called .before in
+    let given = byte .before .before .args in
+    candidate-refused {r = roadOf (given .divisor) (given .free) (given .wave) (given .jam) (given .critical)}
+    (byte .before .road-of .ensures) (byte .mode-byte .ensures) (called .candidate .ensures) (c .before .f .given .1)
+
+pub welgadou-candidate-2-spec : {M : Type 1} → statement M
+welgadou-candidate-2-spec =
+    tie.close
+    (tie.spec road-of-requires mode-byte-requires candidate-requires enum-known-p enum-known-f returns returns-2)
