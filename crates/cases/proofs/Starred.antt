@@ -5,11 +5,11 @@ use Rattle.road.specs.Judgement.{roadRefusal}
 use Rattle.flux.specs.Face.{sending, receiving, numerator, units, scaled, inW, inL, letter}
 use Rattle.checks.specs.Values.{firstAbove}
 use Rattle.scheme.specs.Advance.{ahead, advance, outflow, entering, leaving, stepped}
-use Rattle.scheme.specs.Sums.{sum}
+use Rattle.scheme.specs.Sums.{sum, sameList}
 use Rattle.scheme.specs.Word.{wordOf}
 use Rattle.scheme.specs.Runs.{iterated}
 use Rattle.scheme.specs.Rounded.{roundRun, entered, left}
-use Rattle.scheme.specs.Settling.{sameWord, still, settles, settleSteps, settleCells}
+use Rattle.scheme.specs.Settling.{still, settles, settleSteps, settleCells}
 use Rattle.forecast.specs.Forecast.{forecastRefusal, forecastAnswer, forecastCells}
 use Rattle.forecast.specs.Settle.{settleRefusal, settleAnswer, settleOutput}
 use Rattle.modes.specs.Modes.{modeOf, modesOf, rowTable, rowOf, terms, dot, rowValue, rowNumerators}
@@ -21,7 +21,7 @@ use Rattle.modes.specs.Count.{countRefusal, countAnswer}
 use Rattle.cases.specs.Starred.{Starred}
 
 pub starred : Starred
-unfolding sending receiving numerator units scaled inW inL letter orIf roadRefusal firstAbove ahead advance outflow entering leaving stepped sum wordOf roundRun entered left sameWord iterated still settles settleSteps settleCells forecastRefusal forecastAnswer forecastCells settleRefusal settleAnswer settleOutput modeOf modesOf rowTable rowOf terms dot rowValue rowNumerators illegalPair offends firstOffence legal turned wordCount readRefusal predictRefusal readLetters readModes predicted countRefusal countAnswer
+unfolding sending receiving numerator units scaled inW inL letter orIf roadRefusal firstAbove ahead advance outflow entering leaving stepped sum wordOf roundRun entered left sameList iterated still settles settleSteps settleCells forecastRefusal forecastAnswer forecastCells settleRefusal settleAnswer settleOutput modeOf modesOf rowTable rowOf terms dot rowValue rowNumerators illegalPair offends firstOffence legal turned wordCount readRefusal predictRefusal readLetters readModes predicted countRefusal countAnswer
 starred = record {
   letter-200-200 = refl;
   units-200-200 = refl;

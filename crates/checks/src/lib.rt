@@ -9,4 +9,3 @@ pub use lists::bad_horizon;
 pub use lists::bad_output;
 pub use pairs::or_pair;
 pub use values::first_above;
-pub use values::is_above;

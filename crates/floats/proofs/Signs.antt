@@ -10,7 +10,7 @@ use lib.Ieee.{unlike}
 use Rattle.floats.specs.Worth.{signed}
 
 -- ---- sizes
-natAbs-neg : (z : ℤ) → natAbs (negℤ z) ≡ natAbs z
+pub natAbs-neg : (z : ℤ) → natAbs (negℤ z) ≡ natAbs z
 natAbs-neg (pos zero) = refl
 natAbs-neg (pos (suc n)) = refl
 natAbs-neg (negsuc n) = refl

@@ -10,13 +10,10 @@ use borrow.Author.Tests.{lt-ltb, le-ltb, le-leb, lt-leb}
 use Rattle.road.specs.Choice.{both}
 use Rattle.road.specs.Judgement.{Accepted}
 use Rattle.road.specs.declared.Road.{Road}
+use Rattle.road.proofs.Choice.{both-false}
 use Rattle.flux.specs.Face.{sending, receiving, numerator, letterW, letterL, letterD, inW, inL, letter}
 use Rattle.flux.proofs.Laws.{sending-free, sending-full, receiving-free, receiving-full}
 use Rattle.flux.specs.Letters.{Lettered, PublishedFlow}
-
-both-false : (a : Bool) → both a false ≡ false
-both-false true = refl
-both-false false = refl
 
 -- the four corners of the definition, by the two tests that the code makes
 pub full-W : (r : Road) (a b : ℕ) → r .critical < b → r .wave * (r .jam - b) < r .free * a → letter r a b ≡ letterW

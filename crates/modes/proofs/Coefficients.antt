@@ -17,7 +17,8 @@ use Rattle.floats.proofs.Signs.{signed-mul}
 use Rattle.modes.specs.Modes.{terms, rowValue}
 use Rattle.modes.specs.Coefficients.{entry, leftCoefficient, ownCoefficient, rightCoefficient, constantOf, wholeRow, wholeRows, appliedTo, Sized}
 use Rattle.modes.specs.declared.numerators.WholeRow.{WholeRow}
-use Rattle.modes.proofs.Integers.{natAbs-sum, natAbs-times, +ℤ-times}
+use Rattle.floats.proofs.Signs.{natAbs-add, natAbs-mul}
+use Rattle.modes.proofs.Integers.{+ℤ-times}
 use Rattle.modes.proofs.Seven.{each-mode}
 use Rattle.modes.proofs.Sizes.{largest, sumTo, sum-row, fits, kept, kept-pos, entry-times, free-small, wave-small}
 
@@ -26,12 +27,12 @@ pub asked : {t : ℤ} {n : ℕ} → t ≡ pos n → n ≤ largest → natAbs t �
 asked e h = rw e h
 
 three-small : (a b c : ℤ) → natAbs (a +ℤ b +ℤ c) ≤ natAbs a + natAbs b + natAbs c
-three-small a b c = omega (arith, natAbs-sum a b, natAbs-sum (a +ℤ b) c)
+three-small a b c = omega (arith, natAbs-add a b, natAbs-add (a +ℤ b) c)
 
 -- three numbers as the code has them, added from left to right: both sums fit, and the last is read back
 module _ {x y z a b c : ℤ} (e : x ≡ a) (q : y ≡ b) (s : z ≡ c) (h : natAbs a + natAbs b + natAbs c ≤ 8 * largest) where
   two-small : natAbs (a +ℤ b) ≤ 8 * largest
-  two-small = omega (arith, natAbs-sum a b, h)
+  two-small = omega (arith, natAbs-add a b, h)
 
   all-small : natAbs (a +ℤ b +ℤ c) ≤ 8 * largest
   all-small = le-trans (three-small a b c) h
@@ -108,7 +109,7 @@ module _ (mode : ℕ) (low : 1 ≤ mode) (high : mode ≤ 7) where
 -- a density times a coefficient, as the code has them
 module _ {n : ℕ} (k : ℤ) {bound : ℕ} (h : n ≤ jamCeiling) (g : natAbs k ≤ bound) (few : bound ≤ 3 * divisorCeiling) where
   pub times-small : natAbs (pos n *ℤ k) ≤ jamCeiling * bound
-  times-small = rw natAbs-times (mul-le-mul h g)
+  times-small = rw natAbs-mul (mul-le-mul h g)
 
   same-times : toZ w64 n *ℤ toZ w64 (ofZ w64 k) ≡ pos n *ℤ k
   same-times = ap₂ _*ℤ_ (kept-pos n (le-trans h (lit≤ tt))) (kept {z = k} {w = k} refl (le-trans g (le-trans few (lit≤ tt))))
@@ -142,7 +143,7 @@ module _ (row : WholeRow) (small : Sized row) (left own right : ℕ) (l : left �
         arith,
         parts,
         three-small (pos left *ℤ row .left) (pos own *ℤ row .own) (pos right *ℤ row .right),
-        natAbs-sum (pos left *ℤ row .left +ℤ pos own *ℤ row .own +ℤ pos right *ℤ row .right) (row .constant),
+        natAbs-add (pos left *ℤ row .left +ℤ pos own *ℤ row .own +ℤ pos right *ℤ row .right) (row .constant),
       )
 
   module _ {x y z w : ℤ} (e : x ≡ pos left *ℤ row .left) (q : y ≡ pos own *ℤ row .own) (s : z ≡ pos right *ℤ row .right) (u : w ≡ row .constant) where

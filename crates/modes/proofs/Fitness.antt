@@ -11,7 +11,8 @@ use Rattle.road.specs.Judgement.{Accepted}
 use Rattle.road.specs.declared.Road.{Road}
 use Rattle.flux.proofs.Letters.{one-letter}
 use Rattle.scheme.specs.Word.{wordOf}
-use Rattle.scheme.proofs.Faces.{word-letter, same-words, words-same}
+use Rattle.scheme.proofs.Faces.{word-letter}
+use Rattle.scheme.proofs.Lists.{same-lists, lists-same}
 use Rattle.modes.specs.Words.{legal}
 use Rattle.modes.specs.Fit.{firstMisfit, allHold, misfitFace, Compared, LetteredWord, LowestMisfit, FitState}
 use Rattle.modes.specs.Reading.{OwnWord}
@@ -28,7 +29,7 @@ module _ (r : Road) (cells : List ℕ) (up down : ℕ) where
     -- all hold exactly when the word is the state's own
     pub all-hold : (allHold r cells up down word ≡ true) ↔ (word ≡ wordOf r up down cells)
     unfolding allHold
-    all-hold = (λ e. sym (same-words (wordOf r up down cells) word e), λ e. rw e (words-same (wordOf r up down cells)))
+    all-hold = (λ e. sym (same-lists (wordOf r up down cells) word e), λ e. rw e (lists-same (wordOf r up down cells)))
 
     pub lowest-misfit : length word ≡ length cells + 1 → allHold r cells up down word ≡ false
         → LowestMisfit (wordOf r up down cells) word (misfitFace r cells up down word)

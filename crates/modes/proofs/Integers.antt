@@ -1,4 +1,4 @@
--- Laws of the integers beside the library's: a sum times a number, differences of naturals, and sizes.
+-- Laws of the integers beside the library's: a sum times a number, and differences of naturals with their sizes.
 use mathlib.Core.Path.{_≡_, refl, ap, sym, _∙_}
 use Prim.Native.Nat.{ℕ, zero, suc, _+_, _-_, _*_, _≤_}
 use native.Mathlib.Nat.{sub-add-cancel, le-of-lt, lt-of-not-le}
@@ -6,6 +6,7 @@ use native.Mathlib.Decide.{decLe}
 use native.Mathlib.Omega.{arith}
 use lib.IntN.{ℤ, pos, negsuc, sucℤ, predℤ, _+ℤ_, _-ℤ_, _*ℤ_, negℤ, natAbs, sucℤ-+ℤ, predℤ-+ℤ, sucℤ-*ℤ, predℤ-*ℤ, zero-*ℤ}
 use lib.IntN.{+ℤ-idl, +ℤ-assoc, +ℤ-comm, +ℤ-negℤ-cancel, negℤ-+ℤ, negℤ-negℤ}
+use Rattle.floats.proofs.Signs.{natAbs-neg}
 use Rattle.scheme.specs.Sums.{gap}
 
 -- every integer is reached from 0 by steps of one
@@ -35,12 +36,7 @@ pub +ℤ-times : (a b k : ℤ) → (a +ℤ b) *ℤ k ≡ a *ℤ k +ℤ b *ℤ k
 pub pos-minus : {m n : ℕ} → n ≤ m → pos m -ℤ pos n ≡ pos (m - n)
 pos-minus {m} {n} h = ap (λ x. pos x -ℤ pos n) (sym (sub-add-cancel h)) ∙ +ℤ-negℤ-cancel (pos (m - n)) (pos n)
 
--- the size of a negated number, of a difference of naturals, of a sum and of a product
-natAbs-neg : (k : ℤ) → natAbs (negℤ k) ≡ natAbs k
-natAbs-neg (pos zero) = refl
-natAbs-neg (pos (suc n)) = refl
-natAbs-neg (negsuc n) = refl
-
+-- the size of a difference of naturals
 pub natAbs-minus : (m n : ℕ) → natAbs (pos m -ℤ pos n) ≡ gap m n
 unfolding gap
 natAbs-minus m n = by-order (decLe n m)
@@ -53,16 +49,3 @@ natAbs-minus m n = by-order (decLe n m)
     by-order (no f) =
         let h = le-of-lt (lt-of-not-le f) in
         rw (← turned, natAbs-neg, pos-minus h) (omega arith)
-
-pub natAbs-sum : (k l : ℤ) → natAbs (k +ℤ l) ≤ natAbs k + natAbs l
-unfolding gap
-natAbs-sum (pos a) (pos b) = omega arith
-natAbs-sum (pos a) (negsuc b) = omega (arith, natAbs-minus a (suc b))
-natAbs-sum (negsuc a) (pos b) = omega (arith, natAbs-minus b (suc a))
-natAbs-sum (negsuc a) (negsuc b) = omega arith
-
-pub natAbs-times : (k l : ℤ) → natAbs (k *ℤ l) ≡ natAbs k * natAbs l
-natAbs-times (pos a) (pos b) = refl
-natAbs-times (pos a) (negsuc b) = natAbs-neg (pos (a * suc b))
-natAbs-times (negsuc a) (pos b) = natAbs-neg (pos (suc a * b))
-natAbs-times (negsuc a) (negsuc b) = refl

@@ -13,10 +13,10 @@ use borrow.Author.Tests.{eq-eqb, ne-eqb, eqb-true, eqb-false}
 use Rattle.road.specs.Choice.{pick}
 use Rattle.road.specs.declared.Road.{Road}
 use Rattle.flux.specs.Face.{letter}
-use Rattle.scheme.specs.Sums.{Below}
+use Rattle.scheme.specs.Sums.{sameList, Below}
 use Rattle.scheme.specs.Word.{wordOf}
-use Rattle.scheme.specs.Settling.{sameWord}
-use Rattle.scheme.proofs.Faces.{word-length, same-words, words-same}
+use Rattle.scheme.proofs.Faces.{word-length}
+use Rattle.scheme.proofs.Lists.{same-lists, lists-same}
 use Rattle.modes.specs.Fit.{firstMisfit}
 
 -- a state's word has a letter a face
@@ -74,14 +74,14 @@ fits-itself [] = refl
 fits-itself (s ∷ ss) = misfit-on s s ss ss refl ∙ ap suc (fits-itself ss)
 
 -- so there is none exactly where the words are the same letter by letter
-pub same-word : (ss ts : List ℕ) → length ss ≡ length ts → firstMisfit ss ts ≡ length ss → sameWord ss ts ≡ true
-same-word ss ts long e = rw (no-misfit ss ts long e) (words-same ts)
+pub same-word : (ss ts : List ℕ) → length ss ≡ length ts → firstMisfit ss ts ≡ length ss → sameList ss ts ≡ true
+same-word ss ts long e = rw (no-misfit ss ts long e) (lists-same ts)
 
-pub other-word : (ss ts : List ℕ) → (firstMisfit ss ts ≡ length ss → ⊥) → sameWord ss ts ≡ false
-other-word ss ts n = by-test (sameWord ss ts) refl
+pub other-word : (ss ts : List ℕ) → (firstMisfit ss ts ≡ length ss → ⊥) → sameList ss ts ≡ false
+other-word ss ts n = by-test (sameList ss ts) refl
   where
-    by-test : (b : Bool) → sameWord ss ts ≡ b → b ≡ false
-    by-test true e = absurd (n (ap (firstMisfit ss) (sym (same-words ss ts e)) ∙ fits-itself ss))
+    by-test : (b : Bool) → sameList ss ts ≡ b → b ≡ false
+    by-test true e = absurd (n (ap (firstMisfit ss) (sym (same-lists ss ts e)) ∙ fits-itself ss))
     by-test false e = refl
 
 -- face i of a word, where s, its own letter, is compared with what stands there

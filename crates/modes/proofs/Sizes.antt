@@ -15,7 +15,7 @@ use Rattle.road.specs.Ceilings.{divisorCeiling, jamCeiling}
 use Rattle.road.specs.Judgement.{Accepted}
 use Rattle.road.specs.declared.Road.{Road}
 use Rattle.modes.specs.Modes.{rowOf, terms, dot, rowValue}
-use Rattle.modes.proofs.Integers.{natAbs-sum, natAbs-times}
+use Rattle.floats.proofs.Signs.{natAbs-add, natAbs-mul}
 use Rattle.modes.proofs.Table.{entry-small, row-length}
 
 -- a start plus the first k of the multipliers times their terms, from left to right
@@ -48,7 +48,7 @@ sumTo-small m start ks ts n h part (suc k) g =
       suc-mul (suc k) m,
       part k g,
       sumTo-small m start ks ts n h part k (omega arith),
-      natAbs-sum (sumTo start ks ts k) (getD ks k (pos 0) *ℤ getD ts k (pos 0)),
+      natAbs-add (sumTo start ks ts k) (getD ks k (pos 0) *ℤ getD ts k (pos 0)),
     )
 
 -- the largest product of a speed and a density
@@ -80,7 +80,7 @@ kept-product e h = kept e (le-trans h (lit≤ tt))
 pub entry-times : (mode k : ℕ) → 1 ≤ mode → mode ≤ 7 → k < 7 → (t : ℤ) → natAbs (getD (rowOf mode) k (pos 0) *ℤ t) ≤ natAbs t
 entry-times mode k low high h t =
     let bound = mul-le-mul (entry-small mode k low high h) (le-refl (natAbs t)) in
-    rw natAbs-times (rw one-mul at bound)
+    rw natAbs-mul (rw one-mul at bound)
 
 module _ (r : Road) (ok : Accepted r) where
   product-small : (speed x : ℕ) → speed ≤ r .divisor → x ≤ r .jam → speed * x ≤ largest

@@ -11,7 +11,7 @@ use lib.ListN.{length, getD}
 use Rattle.road.specs.Choice.{pick, both}
 use Rattle.road.specs.Judgement.{Accepted}
 use Rattle.road.specs.declared.Road.{Road}
-use Rattle.road.proofs.Table.{both-left, both-right}
+use Rattle.road.proofs.Choice.{both-left, both-right}
 use Rattle.flux.specs.Face.{letterD}
 use Rattle.modes.specs.Words.{illegalPair}
 use Rattle.modes.specs.Modes.{modeOf, rowTable, rowOf, leftFlow, rightFlow, terms, dot}

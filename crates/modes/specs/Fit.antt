@@ -14,9 +14,8 @@ use Rattle.road.specs.declared.Road.{Road}
 use Rattle.road.specs.declared.refusal.Refusal.{Refusal}
 use Rattle.flux.specs.Letters.{Lettered}
 use Rattle.scheme.specs.Advance.{padded}
-use Rattle.scheme.specs.Sums.{Below}
+use Rattle.scheme.specs.Sums.{sameList, Below}
 use Rattle.scheme.specs.Word.{wordOf}
-use Rattle.scheme.specs.Settling.{sameWord}
 use Rattle.modes.specs.Words.{legal}
 use Rattle.modes.specs.Judging.{fitShapeRows, fitRows, fitRefusal}
 use Rattle.modes.specs.Places.{PairWordPlaced}
@@ -32,7 +31,7 @@ firstMisfit (s ∷ ss) (t ∷ ts) = pick (eqb s t) (suc (firstMisfit ss ts)) 0
 
 -- whether all faces of the word hold: it is the state's word, letter by letter and of the same length
 unfoldable pub allHold : Road → List ℕ → ℕ → ℕ → List ℕ → Bool
-allHold r cells up down word = sameWord (wordOf r up down cells) word
+allHold r cells up down word = sameList (wordOf r up down cells) word
 
 -- the lowest face that does not (0 where all hold)
 unfoldable pub misfitFace : Road → List ℕ → ℕ → ℕ → List ℕ → ℕ

@@ -5,10 +5,7 @@ mod palette;
 mod rows;
 mod sizes;
 
-pub use bitmap::byte_of;
-pub use bitmap::start_byte;
 pub use bitmap::write_start;
-pub use palette::channel;
 pub use palette::shade;
 pub use rows::stretch;
 pub use sizes::row_bytes;

@@ -1,10 +1,10 @@
--- Tests joined: what a joined test that fails says of its parts, and a number in its range.
+-- Tests joined: what a joined test says of its parts, and a number in its range.
 use mathlib.Core.Path.{_≡_, refl}
-use mathlib.Core.Bool.{Bool, true, false, true≢false}
+use mathlib.Core.Bool.{Bool, true, false, true≢false, false≢true}
 use Prim.Native.Nat.{ℕ, _≤_}
-use lib.Dec.{ltb}
+use lib.Dec.{T, ltb}
 use borrow.Author.Tests.{ltb-false, le-ltb}
-use Rattle.road.specs.Choice.{or}
+use Rattle.road.specs.Choice.{or, both}
 use Rattle.road.specs.Judgement.{outside}
 
 -- two tests of which neither holds
@@ -18,6 +18,32 @@ or-right false b e = e
 
 pub neither : (a b : Bool) → a ≡ false → b ≡ false → or a b ≡ false
 neither a b p q = simp (p, q)
+
+-- two tests that hold together
+pub both-left : (a b : Bool) → T (both a b) → T a
+both-left true b t = tt
+both-left false b t = t
+
+pub both-right : (a b : Bool) → T (both a b) → T b
+both-right true b t = t
+both-right false b t = absurd t
+
+pub both-first : (a b : Bool) → both a b ≡ true → a ≡ true
+both-first true b e = refl
+both-first false b e = absurd (false≢true e)
+
+pub both-second : (a b : Bool) → both a b ≡ true → b ≡ true
+both-second true b e = e
+both-second false b e = absurd (false≢true e)
+
+-- a test beside one that is known
+pub both-true : (a : Bool) → both a true ≡ a
+both-true true = refl
+both-true false = refl
+
+pub both-false : (a : Bool) → both a false ≡ false
+both-false true = refl
+both-false false = refl
 
 -- a number that is not outside its range
 pub from-low : (low high x : ℕ) → outside low high x ≡ false → low ≤ x

@@ -12,6 +12,7 @@ use borrow.Author.Tests.{eq-eqb, ne-eqb}
 use Rattle.road.specs.Choice.{pick, both}
 use Rattle.road.specs.Table.{refused, passed, orIf, Row, row, judgeBelow, judge, lacks, apart, rising, rowAt, Applies, First, Lowest}
 use Rattle.road.specs.declared.refusal.Refusal.{Refusal}
+use Rattle.road.proofs.Choice.{both-left, both-right}
 
 -- one row of code: the row above, the condition and the place as they were shown to be
 pub next-row : (n : ℕ) {f f′ : Refusal} {c c′ : Bool} {p p′ : ℕ} → f ≡ f′ → c ≡ c′ → p ≡ p′ → orIf f c n p ≡ orIf f′ c′ n p′
@@ -26,14 +27,6 @@ stands : (f : Refusal) (rs : List Row) → 0 < f .number → judgeBelow f rs ≡
 stands f [] h = refl
 stands f (r ∷ rs) h =
     ap (λ (g : Refusal). judgeBelow g rs) (row-stands f (r .condition) (r .number) (r .place) h) ∙ stands f rs h
-
-pub both-left : (a b : Bool) → T (both a b) → T a
-both-left true b t = tt
-both-left false b t = t
-
-pub both-right : (a b : Bool) → T (both a b) → T b
-both-right true b t = t
-both-right false b t = absurd t
 
 -- the first row refuses, or the rest is judged
 module _ (r : Row) (rs : List Row) where

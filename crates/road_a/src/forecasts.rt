@@ -122,8 +122,8 @@ fn edge(name: &[u8], r: Road, cell: u32, up: u32, down: u32, n: usize, t: usize)
     let ups = buffers::ends(up);
     let downs = buffers::ends(down);
     let mut out = buffers::cells(7);
-    if n <= 257 {
-        if t <= 4097 {
+    if n <= buffers::CELLS {
+        if t <= buffers::ENDS {
             show(
                 name,
                 r,

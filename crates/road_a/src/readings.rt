@@ -77,7 +77,7 @@ fn long(name: &[u8], n: usize) {
     let cells = buffers::cells(1000);
     let mut letters = buffers::codes();
     let mut codes = buffers::codes();
-    if n <= 257 {
+    if n <= buffers::CELLS {
         let m = n + 1;
         show(
             name,

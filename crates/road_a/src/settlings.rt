@@ -32,7 +32,7 @@ fn show(name: &[u8], r: Road, cells: &[u32], up: u32, down: u32, horizon: u32, o
 fn long(name: &[u8], r: Road, cell: u32, n: usize, t: u32) {
     let cells = buffers::cells(cell);
     let mut out = buffers::cells(7);
-    if n <= 257 {
+    if n <= buffers::CELLS {
         show(name, r, &cells[..n], 0, 0, t, &mut out[..n]);
     }
 }

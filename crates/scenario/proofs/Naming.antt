@@ -11,7 +11,7 @@ use lib.ListN.{length, getD, drop, drop-of-length-le}
 use lib.Seq.{drop-nil}
 use borrow.Author.Tests.{eq-eqb, ne-eqb}
 use Rattle.road.specs.Choice.{both}
-use Rattle.road.proofs.Table.{both-left, both-right}
+use Rattle.road.proofs.Choice.{both-left, both-right}
 use Rattle.scenario.specs.Keys.{keyCount, names, isName, placeIn, keyCode, unknownKey}
 use Rattle.scenario.proofs.Search.{until, until-bound, Searching}
 

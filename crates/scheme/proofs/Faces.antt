@@ -10,12 +10,14 @@ use lib.ListN.{length, getD}
 use borrow.Author.Tests.{eqb-true, eq-eqb}
 use Rattle.road.specs.Choice.{both}
 use Rattle.road.specs.declared.Road.{Road}
+use Rattle.road.proofs.Choice.{both-first, both-second}
 use Rattle.flux.specs.Face.{letter}
 use Rattle.scheme.specs.Advance.{ahead, outflow, flows, entering, leaving, padded, faceFlows}
-use Rattle.scheme.specs.Sums.{sum}
+use Rattle.scheme.specs.Sums.{sum, sameList}
 use Rattle.scheme.specs.Word.{wordOf}
 use Rattle.scheme.specs.Rounded.{roundStep}
-use Rattle.scheme.specs.Settling.{sameWord, still}
+use Rattle.scheme.specs.Settling.{still}
+use Rattle.scheme.proofs.Lists.{same-lists, lists-same}
 
 -- a word is n+1 letters, and letter k is that of face k
 pub word-length : (r : Road) (up down : ℕ) (xs : List ℕ) → length (wordOf r up down xs) ≡ suc (length xs)
@@ -65,37 +67,16 @@ module _ (F : ℕ → ℕ → ℕ → ℕ) where
   unfolding faceFlows leaving
   leaves-last up down xs = last-from 1 (entering F up down xs) down xs
 
-both-first : (a b : Bool) → both a b ≡ true → a ≡ true
-both-first true b e = refl
-both-first false b e = absurd (false≢true e)
-
-both-second : (a b : Bool) → both a b ≡ true → b ≡ true
-both-second true b e = e
-both-second false b e = absurd (false≢true e)
-
--- two words that a test finds the same are the same
-pub same-words : (ss ts : List ℕ) → sameWord ss ts ≡ true → ss ≡ ts
-unfolding sameWord
-same-words [] [] e = refl
-same-words [] (t ∷ ts) e = absurd (false≢true e)
-same-words (s ∷ ss) [] e = absurd (false≢true e)
-same-words (s ∷ ss) (t ∷ ts) e = ap₂ _∷_ (eqb-true s t (both-first (eqb s t) (sameWord ss ts) e)) (same-words ss ts (both-second (eqb s t) (sameWord ss ts) e))
-
-pub words-same : (ss : List ℕ) → sameWord ss ss ≡ true
-unfolding sameWord
-words-same [] = refl
-words-same (s ∷ ss) = rw (eq-eqb s s refl) (words-same ss)
-
 -- a step is still exactly when it keeps the letter at every face and the sum of the cells
 pub still-means : (r : Road) (up down : ℕ) (xs : List ℕ)
     → (still r up down xs ≡ true) ↔ ((wordOf r up down (roundStep r up down xs) ≡ wordOf r up down xs) × (sum (roundStep r up down xs) ≡ sum xs))
 unfolding still
 still-means r up down xs = (
   λ e.
-      let words = sameWord (wordOf r up down xs) (wordOf r up down (roundStep r up down xs)) in
+      let words = sameList (wordOf r up down xs) (wordOf r up down (roundStep r up down xs)) in
       let sums = eqb (sum xs) (sum (roundStep r up down xs)) in (
-        sym (same-words (wordOf r up down xs) (wordOf r up down (roundStep r up down xs)) (both-first words sums e)),
+        sym (same-lists (wordOf r up down xs) (wordOf r up down (roundStep r up down xs)) (both-first words sums e)),
         sym (eqb-true (sum xs) (sum (roundStep r up down xs)) (both-second words sums e)),
       ),
-  λ p. rw (p .0, p .1, words-same (wordOf r up down xs)) (eq-eqb (sum xs) (sum xs) refl),
+  λ p. rw (p .0, p .1, lists-same (wordOf r up down xs)) (eq-eqb (sum xs) (sum xs) refl),
 )

@@ -1,11 +1,28 @@
--- Facts on lists of numbers: two lists side by side, their order, distances and multiples.
-use mathlib.Core.Path.{_≡_, refl, ap, sym}
+-- Facts on lists of numbers: the test that compares them, two lists side by side, their order, distances and multiples.
+use mathlib.Core.Path.{_≡_, refl, ap, ap₂, sym}
+use mathlib.Core.Bool.{true, false≢true}
 use mathlib.Core.List.{List, [], _∷_}
 use Prim.Native.Nat.{ℕ, zero, suc, _+_, _-_, _*_, _≤_, zero-le}
 use native.Mathlib.Nat.{suc-inj, mul-zero, mul-add, mul-sub, mul-assoc, one-mul}
 use native.Mathlib.Omega.{arith}
+use lib.Dec.{eqb}
 use lib.ListN.{length, getD}
-use Rattle.scheme.specs.Sums.{gap, distance, times, NoMore}
+use borrow.Author.Tests.{eqb-true, eq-eqb}
+use Rattle.road.proofs.Choice.{both-first, both-second}
+use Rattle.scheme.specs.Sums.{gap, distance, times, sameList, NoMore}
+
+-- two lists that the test finds the same are the same
+pub same-lists : (xs ys : List ℕ) → sameList xs ys ≡ true → xs ≡ ys
+unfolding sameList
+same-lists [] [] e = refl
+same-lists [] (y ∷ ys) e = absurd (false≢true e)
+same-lists (x ∷ xs) [] e = absurd (false≢true e)
+same-lists (x ∷ xs) (y ∷ ys) e = ap₂ _∷_ (eqb-true x y (both-first (eqb x y) (sameList xs ys) e)) (same-lists xs ys (both-second (eqb x y) (sameList xs ys) e))
+
+pub lists-same : (xs : List ℕ) → sameList xs xs ≡ true
+unfolding sameList
+lists-same [] = refl
+lists-same (x ∷ xs) = rw (eq-eqb x x refl) (lists-same xs)
 
 -- two lists of one length, R holding of each cell of the first and the same cell of the second
 pub data Pairs (R : ℕ → ℕ → Type 0) : List ℕ → List ℕ → Type 0 where

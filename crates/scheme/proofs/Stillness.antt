@@ -14,12 +14,13 @@ use borrow.Author.Tests.{eq-eqb, ne-eqb}
 use Rattle.road.specs.Choice.{both}
 use Rattle.road.specs.Judgement.{Accepted}
 use Rattle.road.specs.declared.Road.{Road}
+use Rattle.road.proofs.Choice.{both-true, both-false}
 use Rattle.flux.specs.Face.{numerator, units, letter}
 use Rattle.scheme.specs.Advance.{ahead, advance, outflow, entering, leaving, stepped}
-use Rattle.scheme.specs.Sums.{sum, Below}
+use Rattle.scheme.specs.Sums.{sum, sameList, Below}
 use Rattle.scheme.specs.Rounded.{moved, roundStep}
 use Rattle.scheme.specs.Word.{wordOf}
-use Rattle.scheme.specs.Settling.{sameWord, keepsLetters, still}
+use Rattle.scheme.specs.Settling.{keepsLetters, still}
 use Rattle.scheme.proofs.Laws.{partners}
 use Rattle.scheme.proofs.Ahead.{ahead-at, enters}
 use Rattle.scheme.proofs.Balance.{stepped-balance}
@@ -29,7 +30,7 @@ use Rattle.scheme.proofs.InPlace.{advance-cell}
 -- the comparison of the faces of a list, between old and new densities to its left
 abbrev compared : Road → ℕ → ℕ → ℕ → ℕ → ℕ → List ℕ → Bool
 compared r down old-left new-left i inflow xs =
-    sameWord (wordOf r old-left down xs) (wordOf r new-left down (advance 1 (moved r) i inflow down xs))
+    sameList (wordOf r old-left down xs) (wordOf r new-left down (advance 1 (moved r) i inflow down xs))
 
 pub record Comparing (r : Road) (up down : ℕ) (x : List ℕ) (old-left new-left inflow i : ℕ) : Type 0 where
   pub inside : i ≤ length x
@@ -37,14 +38,6 @@ pub record Comparing (r : Road) (up down : ℕ) (x : List ℕ) (old-left new-lef
   pub new-below : new-left ≤ r .jam
   pub room : i < length x → getD x i 0 + inflow ≤ r .jam
   pub letters : compared r down old-left new-left (suc i) inflow (drop i x) ≡ keepsLetters r up down x
-
-both-true : (a : Bool) → both a true ≡ a
-both-true true = refl
-both-true false = refl
-
-both-false : (a : Bool) → both a false ≡ false
-both-false true = refl
-both-false false = refl
 
 -- two tests of equal numbers that hold together are one
 same-test : (a b c d : ℕ) → (a ≡ b → c ≡ d) → (c ≡ d → a ≡ b) → eqb a b ≡ eqb c d
@@ -105,12 +98,12 @@ module _ {r : Road} (ok : Accepted r) where
     module _ {next out : ℕ} (h : i < length x) (n : next ≡ ahead down (drop (suc i) x)) (e : out ≡ units r (numerator r (getD x i 0) next)) where
       cell : both (eqb (letter r old-left (getD x i 0)) (letter r new-left (getD x i 0 + inflow - out)))
           (compared r down (getD x i 0) (getD x i 0 + inflow - out) (suc (suc i)) out (drop (suc i) x)) ≡ keepsLetters r up down x
-      unfolding wordOf sameWord
+      unfolding wordOf sameList
       cell =
           let own = getD x i 0 in
           let here : drop i x ≡ own ∷ drop (suc i) x = drop-cons x i 0 h in
           let over : out ≡ moved r (suc i) own (ahead down (drop (suc i) x)) = e ∙ ap (moved r (suc i) own) n in
-          sym (ap₂ sameWord (ap (wordOf r old-left down) here) (ap (wordOf r new-left down) (advance-cell (moved r) (suc i) inflow down own here out over)))
+          sym (ap₂ sameList (ap (wordOf r old-left down) here) (ap (wordOf r new-left down) (advance-cell (moved r) (suc i) inflow down own here out over)))
           ∙ now .letters
 
       changed : eqb (letter r old-left (getD x i 0)) (letter r new-left (getD x i 0 + inflow - out)) ≡ false → false ≡ keepsLetters r up down x
@@ -139,5 +132,5 @@ module _ {r : Road} (ok : Accepted r) where
     turns = rw (add-one i) turn
 
     pub ends : length x ≤ i → eqb (letter r old-left down) (letter r new-left down) ≡ keepsLetters r up down x
-    unfolding wordOf sameWord advance
+    unfolding wordOf sameList advance
     ends h = sym (both-true (eqb (letter r old-left down) (letter r new-left down))) ∙ (rw (drop-of-length-le x h) at (now .letters))

@@ -6,21 +6,14 @@ use Prim.Native.Nat.{ℕ, zero, suc, _<_}
 use lib.Dec.{eqb}
 use Rattle.road.specs.Choice.{pick, both}
 use Rattle.road.specs.declared.Road.{Road}
-use Rattle.scheme.specs.Sums.{sum}
+use Rattle.scheme.specs.Sums.{sum, sameList}
 use Rattle.scheme.specs.Runs.{iterated}
 use Rattle.scheme.specs.Word.{wordOf}
 use Rattle.scheme.specs.Rounded.{roundStep}
 
--- two words letter by letter
-unfoldable pub sameWord : List ℕ → List ℕ → Bool
-sameWord [] [] = true
-sameWord [] (t ∷ ts) = false
-sameWord (s ∷ ss) [] = false
-sameWord (s ∷ ss) (t ∷ ts) = both (eqb s t) (sameWord ss ts)
-
 -- the step keeps the letter at every face
 abbrev pub keepsLetters : Road → ℕ → ℕ → List ℕ → Bool
-keepsLetters r up down xs = sameWord (wordOf r up down xs) (wordOf r up down (roundStep r up down xs))
+keepsLetters r up down xs = sameList (wordOf r up down xs) (wordOf r up down (roundStep r up down xs))
 
 -- still: it keeps the letter at every face and the sum of the cells
 unfoldable pub still : Road → ℕ → ℕ → List ℕ → Bool

@@ -1,8 +1,11 @@
--- Sums, bounds and distances of lists of densities.
+-- Sums, bounds, distances and comparisons of lists of numbers.
 use mathlib.Core.Path.{_≡_}
+use mathlib.Core.Bool.{Bool, true, false}
 use mathlib.Core.List.{List, [], _∷_}
 use Prim.Native.Nat.{ℕ, _+_, _-_, _*_, _≤_}
+use lib.Dec.{eqb}
 use lib.ListN.{length, getD}
+use Rattle.road.specs.Choice.{both}
 
 -- the sum of the cells
 unfoldable pub sum : List ℕ → ℕ
@@ -23,6 +26,13 @@ distance (x ∷ xs) (y ∷ ys) = gap x y + distance xs ys
 unfoldable pub times : ℕ → List ℕ → List ℕ
 times k [] = []
 times k (x ∷ xs) = k * x ∷ times k xs
+
+-- two lists number by number
+unfoldable pub sameList : List ℕ → List ℕ → Bool
+sameList [] [] = true
+sameList [] (y ∷ ys) = false
+sameList (x ∷ xs) [] = false
+sameList (x ∷ xs) (y ∷ ys) = both (eqb x y) (sameList xs ys)
 
 -- every density from 0 to j
 abbrev pub Below : ℕ → List ℕ → Type 0

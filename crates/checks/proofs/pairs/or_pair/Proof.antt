@@ -12,15 +12,6 @@ use borrow.Author.Needs.{needs}
 use Rattle.checks.proofs.pairs.or_pair.Statement.{statement}
 use Rattle.checks.proofs.pairs.or_pair.Tie as tie
 
-first-above-requires : tie.Need-first-above-requires
-first-above-requires c κs = search needs
-
-is-above-requires : tie.Need-is-above-requires
-is-above-requires c κs = search needs
-
-is-above-requires-2 : tie.Need-is-above-requires-2
-is-above-requires-2 c κs = search needs
-
 -- the cells are few, so that a place fits
 short : (c : tie.After-first-above) → c .first-above .result ≤ cellsCeiling
 short c =
@@ -32,15 +23,6 @@ add-or-if c = let few = short (c .before .before) in omega arith
 
 cast-or-if : tie.Need-cast-or-if
 cast-or-if c = let few = short (c .before .before) in omega arith
-
-or-if-requires : tie.Need-or-if-requires
-or-if-requires c κs = search needs
-
-or-if-requires-2 : tie.Need-or-if-requires-2
-or-if-requires-2 c κs = search needs
-
-or-if-requires-3 : tie.Need-or-if-requires-3
-or-if-requires-3 c κs = search needs
 
 returns : tie.Need-returns
 returns c =
@@ -62,13 +44,5 @@ returns c =
 pub or-pair-spec : {M : Type 1} → statement M
 or-pair-spec =
     tie.close
-    (tie.spec
-    first-above-requires
-    is-above-requires
-    is-above-requires-2
-    add-or-if
-    cast-or-if
-    or-if-requires
-    or-if-requires-2
-    or-if-requires-3
-    returns)
+    (tie.spec (λ c κs. search needs) (λ c κs. search needs) (λ c κs. search needs) add-or-if cast-or-if
+    (λ c κs. search needs) (λ c κs. search needs) (λ c κs. search needs) returns)

@@ -8,9 +8,6 @@ use borrow.Author.Needs.{needs}
 use Rattle.flux.proofs.face.letter.Statement.{statement}
 use Rattle.flux.proofs.face.letter.Tie as tie
 
-sub-room : tie.Need-sub-room
-sub-room c = search needs
-
 mul-room : tie.Need-mul-room
 mul-room c =
     let s = c .before .before .before .before in
@@ -42,4 +39,4 @@ returns-4 c =
     sym (free-D (a .r) (a .a) (a .b) (search needs) (c .if3 .left))
 
 pub letter-spec : {M : Type 1} → statement M
-letter-spec = tie.close (tie.spec sub-room mul-room mul-sent returns returns-2 returns-3 returns-4)
+letter-spec = tie.close (tie.spec (λ c. search needs) mul-room mul-sent returns returns-2 returns-3 returns-4)

@@ -6,18 +6,11 @@ use borrow.Author.Needs.{needs}
 use Rattle.flux.proofs.face.numerator.Statement.{statement}
 use Rattle.flux.proofs.face.numerator.Tie as tie
 
-sending-requires : tie.Need-sending-requires
-sending-requires c κs = search needs
-
-receiving-requires : tie.Need-receiving-requires
-receiving-requires c κs = search needs
-
-smaller-requires : tie.Need-smaller-requires
-smaller-requires c κs = search needs
-
 returns : tie.Need-returns
 unfolding numerator
 returns c = c .smaller .ensures ∙ ap₂ min (c .before .before .sending .ensures) (c .before .receiving .ensures)
 
 pub numerator-spec : {M : Type 1} → statement M
-numerator-spec = tie.close (tie.spec sending-requires receiving-requires smaller-requires returns)
+numerator-spec =
+    tie.close
+    (tie.spec (λ c κs. search needs) (λ c κs. search needs) (λ c κs. search needs) returns)

@@ -8,12 +8,6 @@ use borrow.Author.Needs.{needs}
 use Rattle.flux.proofs.face.receiving.Statement.{statement}
 use Rattle.flux.proofs.face.receiving.Tie as tie
 
-greater-requires : tie.Need-greater-requires
-greater-requires c κs = search needs
-
-sub-result : tie.Need-sub-result
-sub-result c = search needs
-
 mul-result : tie.Need-mul-result
 mul-result c =
     let s = c .before .before .before in
@@ -27,4 +21,4 @@ returns c =
     ap (λ (x : ℕ). r .wave * (r .jam - x)) (c .before .before .greater .ensures)
 
 pub receiving-spec : {M : Type 1} → statement M
-receiving-spec = tie.close (tie.spec greater-requires sub-result mul-result returns)
+receiving-spec = tie.close (tie.spec (λ c κs. search needs) (λ c. search needs) mul-result returns)

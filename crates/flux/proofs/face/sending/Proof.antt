@@ -8,9 +8,6 @@ use borrow.Author.Needs.{needs}
 use Rattle.flux.proofs.face.sending.Statement.{statement}
 use Rattle.flux.proofs.face.sending.Tie as tie
 
-smaller-requires : tie.Need-smaller-requires
-smaller-requires c κs = search needs
-
 mul-result : tie.Need-mul-result
 mul-result c =
     let s = c .before .before in
@@ -23,4 +20,4 @@ unfolding sending
 returns c = ap (λ (x : ℕ). c .before .before .args .r .free * x) (c .before .smaller .ensures)
 
 pub sending-spec : {M : Type 1} → statement M
-sending-spec = tie.close (tie.spec smaller-requires mul-result returns)
+sending-spec = tie.close (tie.spec (λ c κs. search needs) mul-result returns)

@@ -5,12 +5,9 @@ use borrow.Author.Needs.{needs}
 use Rattle.flux.proofs.face.units.Statement.{statement}
 use Rattle.flux.proofs.face.units.Tie as tie
 
-div-result : tie.Need-div-result
-div-result c = search needs
-
 returns : tie.Need-returns
 unfolding units
 returns c = refl
 
 pub units-spec : {M : Type 1} → statement M
-units-spec = tie.close (tie.spec div-result returns)
+units-spec = tie.close (tie.spec (λ c. search needs) returns)

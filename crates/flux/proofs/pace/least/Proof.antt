@@ -7,12 +7,6 @@ use borrow.Author.Needs.{needs}
 use Rattle.flux.proofs.pace.least.Statement.{statement}
 use Rattle.flux.proofs.pace.least.Tie as tie
 
-cast-if1 : tie.Need-cast-if1
-cast-if1 c = search needs
-
-cast-if1-2 : tie.Need-cast-if1-2
-cast-if1-2 c = search needs
-
 returns : tie.Need-returns
 returns c =
     let s = c .before in
@@ -26,4 +20,4 @@ returns-2 c =
     omega (arith, more)
 
 pub least-spec : {M : Type 1} → statement M
-least-spec = tie.close (tie.spec cast-if1 cast-if1-2 returns returns-2)
+least-spec = tie.close (tie.spec (λ c. search needs) (λ c. search needs) returns returns-2)

@@ -14,24 +14,12 @@ use borrow.Author.Needs.{needs}
 use Rattle.forecast.proofs.forecasting.judged.Statement.{statement}
 use Rattle.forecast.proofs.forecasting.judged.Tie as tie
 
-judged-shape-requires : tie.Need-judged-shape-requires
-judged-shape-requires c κs = search needs
-
 returns : tie.Need-returns
 returns c =
     let j = c .before .before in
     let s = j .before .before .before .before in
     shape-stands (s .args .road) (s .args .cells .now) (s .args .upstream .now) (s .args .downstream .now) (s .args .horizon) (s .args .out)
     (j .judged-shape .result) (j .judged-shape .ensures) (c .if1 .taken)
-
-first-above-requires : tie.Need-first-above-requires
-first-above-requires c κs = search needs
-
-first-above-requires-2 : tie.Need-first-above-requires-2
-first-above-requires-2 c κs = search needs
-
-first-above-requires-3 : tie.Need-first-above-requires-3
-first-above-requires-3 c κs = search needs
 
 -- past the first branch the shape is right, so that the lists are short
 short : (c : tie.After-first-above) → (length (c .before .before .before .before .before .before .before .args .cells .now) ≤ cellsCeiling) × ((length (c .before .before .before .before .before .before .before .args .upstream .now) ≤ horizonCeiling) × (length (c .before .before .before .before .before .before .before .args .downstream .now) ≤ horizonCeiling))
@@ -57,9 +45,6 @@ cast-or-if c =
     let within = first-bound (s .args .road .jam) (s .args .cells .now) in
     omega (arith, cell .first-above .ensures)
 
-or-if-requires : tie.Need-or-if-requires
-or-if-requires c κs = search needs
-
 cast-or-if-2 : tie.Need-cast-or-if-2
 cast-or-if-2 c =
     let up = c .before .before in
@@ -68,9 +53,6 @@ cast-or-if-2 c =
     let within = first-bound (s .args .road .jam) (s .args .upstream .now) in
     omega (arith, up .first-above2 .ensures)
 
-or-if-requires-2 : tie.Need-or-if-requires-2
-or-if-requires-2 c κs = search needs
-
 cast-or-if-3 : tie.Need-cast-or-if-3
 cast-or-if-3 c =
     let down = c .before .before in
@@ -78,9 +60,6 @@ cast-or-if-3 c =
     let few = short (down .before .before) .1 .1 in
     let within = first-bound (s .args .road .jam) (s .args .downstream .now) in
     omega (arith, down .first-above3 .ensures)
-
-or-if-requires-3 : tie.Need-or-if-requires-3
-or-if-requires-3 c κs = search needs
 
 returns-2 : tie.Need-returns-2
 unfolding shapeRefusal forecastRefusal
@@ -105,17 +84,6 @@ returns-2 c =
 pub judged-spec : {M : Type 1} → statement M
 judged-spec =
     tie.close
-    (tie.spec
-    judged-shape-requires
-    returns
-    first-above-requires
-    first-above-requires-2
-    first-above-requires-3
-    add-or-if
-    cast-or-if
-    or-if-requires
-    cast-or-if-2
-    or-if-requires-2
-    cast-or-if-3
-    or-if-requires-3
-    returns-2)
+    (tie.spec (λ c κs. search needs) returns (λ c κs. search needs) (λ c κs. search needs)
+    (λ c κs. search needs) add-or-if cast-or-if (λ c κs. search needs) cast-or-if-2 (λ c κs. search needs)
+    cast-or-if-3 (λ c κs. search needs) returns-2)

@@ -8,9 +8,6 @@ use borrow.Author.Needs.{needs}
 use Rattle.forecast.proofs.settling.judged.Statement.{statement}
 use Rattle.forecast.proofs.settling.judged.Tie as tie
 
-judged-shape-requires : tie.Need-judged-shape-requires
-judged-shape-requires c κs = search needs
-
 returns : tie.Need-returns
 returns c =
     let j = c .before .before in
@@ -35,5 +32,4 @@ returns-2 c =
     (pairRows (s .args .road) (s .args .cells .now) (s .args .up) (s .args .down)) (j .judged-shape .ensures) (c .or-pair .ensures)
 
 pub judged-spec : {M : Type 1} → statement M
-judged-spec =
-    tie.close (tie.spec judged-shape-requires returns or-pair-requires returns-2)
+judged-spec = tie.close (tie.spec (λ c κs. search needs) returns or-pair-requires returns-2)

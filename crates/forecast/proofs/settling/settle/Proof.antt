@@ -11,9 +11,6 @@ use borrow.Author.Needs.{needs}
 use Rattle.forecast.proofs.settling.settle.Statement.{statement}
 use Rattle.forecast.proofs.settling.settle.Tie as tie
 
-judged-requires : tie.Need-judged-requires
-judged-requires c κs = search needs
-
 returns : tie.Need-returns
 returns c =
     let j = c .before .before in
@@ -44,9 +41,6 @@ settle-requires c κs =
     settle-asks (s .args .road) (c .before .of .result) (c .before .of .ensures) (s .args .cells .now) (copied .copy .last .1 .0) (copied .copy .ensures)
     (s .args .up) (s .args .down) (s .args .horizon) (length (s .args .out .now)) (checked go)
 
-same-length : tie.Need-same-length
-same-length c = search needs
-
 returns-2 : tie.Need-returns-2
 returns-2 c =
     let ran = c .before .before in
@@ -60,11 +54,5 @@ returns-2 c =
 pub settle-spec : {M : Type 1} → statement M
 settle-spec =
     tie.close
-    (tie.spec
-    judged-requires
-    returns
-    copy-requires
-    of-requires
-    settle-requires
-    same-length
+    (tie.spec (λ c κs. search needs) returns copy-requires of-requires settle-requires (λ c. search needs)
     returns-2)

@@ -9,11 +9,8 @@ returns c = simp (c .if1 .taken)
 returns-2 : tie.Need-returns-2
 returns-2 c = simp (c .before .if1 .left, c .if2 .taken)
 
-int-to-float-result : tie.Need-int-to-float-result
-int-to-float-result c = search needs
-
 returns-3 : tie.Need-returns-3
 returns-3 c = simp (c .before .before .if1 .left, c .before .if2 .left)
 
 pub bad-estimate-spec : {M : Type 1} → statement M
-bad-estimate-spec = tie.close (tie.spec returns returns-2 int-to-float-result returns-3)
+bad-estimate-spec = tie.close (tie.spec returns returns-2 (λ c. search needs) returns-3)

@@ -9,9 +9,6 @@ use borrow.Author.Needs.{needs}
 use Rattle.modes.proofs.candidates.candidate.Statement.{statement}
 use Rattle.modes.proofs.candidates.candidate.Tie as tie
 
-judged-requires : tie.Need-judged-requires
-judged-requires c κs = search needs
-
 returns : tie.Need-returns
 returns c =
     let j = c .before .before in
@@ -29,9 +26,6 @@ of-requires c κs =
     let k = checked (candidate-call (a .road) (a .mode) (a .left) (a .own) (a .right)) (nothing c) in
     (k .accepted, (k .mode-low, k .mode-high))
 
-applied-requires : tie.Need-applied-requires
-applied-requires c κs = search needs
-
 returns-2 : tie.Need-returns-2
 returns-2 c =
     let go = c .before .before in
@@ -41,4 +35,5 @@ returns-2 c =
 
 pub candidate-spec : {M : Type 1} → statement M
 candidate-spec =
-    tie.close (tie.spec judged-requires returns of-requires applied-requires returns-2)
+    tie.close
+    (tie.spec (λ c κs. search needs) returns of-requires (λ c κs. search needs) returns-2)

@@ -6,11 +6,8 @@ use borrow.Author.Needs.{needs}
 use Rattle.modes.proofs.candidates.float_of.Statement.{statement}
 use Rattle.modes.proofs.candidates.float_of.Tie as tie
 
-nearest-i64-to-f64-requires : tie.Need-nearest-i64-to-f64-requires
-nearest-i64-to-f64-requires c κs = search needs
-
 returns : tie.Need-returns
 returns c = c .nearest-i64-to-f64 .ensures ∙ ap (ofInt binary64) (toZ-ofZ (c .before .fits .n))
 
 pub float-of-spec : {M : Type 1} → statement M
-float-of-spec = tie.close (tie.spec nearest-i64-to-f64-requires returns)
+float-of-spec = tie.close (tie.spec (λ c κs. search needs) returns)

@@ -10,36 +10,6 @@ use borrow.Author.Needs.{needs}
 use Rattle.modes.proofs.candidates.judged.Statement.{statement}
 use Rattle.modes.proofs.candidates.judged.Tie as tie
 
-bad-mode-requires : tie.Need-bad-mode-requires
-bad-mode-requires c κs = search needs
-
-bad-estimate-requires : tie.Need-bad-estimate-requires
-bad-estimate-requires c κs = search needs
-
-bad-estimate-requires-2 : tie.Need-bad-estimate-requires-2
-bad-estimate-requires-2 c κs = search needs
-
-bad-estimate-requires-3 : tie.Need-bad-estimate-requires-3
-bad-estimate-requires-3 c κs = search needs
-
-either-requires : tie.Need-either-requires
-either-requires c κs = search needs
-
-either-requires-2 : tie.Need-either-requires-2
-either-requires-2 c κs = search needs
-
-estimate-place-requires : tie.Need-estimate-place-requires
-estimate-place-requires c κs = search needs
-
-judged-requires : tie.Need-judged-requires
-judged-requires c κs = search needs
-
-or-if-requires : tie.Need-or-if-requires
-or-if-requires c κs = search needs
-
-or-if-requires-2 : tie.Need-or-if-requires-2
-or-if-requires-2 c κs = search needs
-
 returns : tie.Need-returns
 unfolding candidateRefusal roadRefusal
 returns c =
@@ -63,15 +33,6 @@ returns c =
 pub judged-spec : {M : Type 1} → statement M
 judged-spec =
     tie.close
-    (tie.spec
-    bad-mode-requires
-    bad-estimate-requires
-    bad-estimate-requires-2
-    bad-estimate-requires-3
-    either-requires
-    either-requires-2
-    estimate-place-requires
-    judged-requires
-    or-if-requires
-    or-if-requires-2
-    returns)
+    (tie.spec (λ c κs. search needs) (λ c κs. search needs) (λ c κs. search needs) (λ c κs. search needs)
+    (λ c κs. search needs) (λ c κs. search needs) (λ c κs. search needs) (λ c κs. search needs)
+    (λ c κs. search needs) (λ c κs. search needs) returns)

@@ -8,9 +8,6 @@ use borrow.Author.Needs.{needs}
 use Rattle.modes.proofs.counting.count.Statement.{statement}
 use Rattle.modes.proofs.counting.count.Tie as tie
 
-judged-requires : tie.Need-judged-requires
-judged-requires c κs = search needs
-
 returns : tie.Need-returns
 returns c =
     let j = c .before .before in
@@ -29,4 +26,4 @@ returns-2 c =
     done (go .before .before .before .args .cells) (nothing go) (c .counted .result) (c .counted .ensures)
 
 pub count-spec : {M : Type 1} → statement M
-count-spec = tie.close (tie.spec judged-requires returns counted-requires returns-2)
+count-spec = tie.close (tie.spec (λ c κs. search needs) returns counted-requires returns-2)

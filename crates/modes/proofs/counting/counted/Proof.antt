@@ -31,12 +31,6 @@ add-w c = let s = small (c .before) in omega arith
 add-w-2 : tie.Need-add-w-2 Inv-loop μ-loop
 add-w-2 c = let s = small (c .before) in omega arith
 
-add-turn : tie.Need-add-turn Inv-loop μ-loop
-add-turn c = search needs
-
-loop-less : tie.Need-loop-less Inv-loop μ-loop
-loop-less c = search needs
-
 loop-again : tie.Need-loop-again Inv-loop μ-loop
 loop-again c =
     let l = c .before in
@@ -56,17 +50,5 @@ returns c =
 pub counted-spec : {M : Type 1} → statement M
 counted-spec =
     tie.close
-    (tie.spec
-    Inv-loop
-    μ-loop
-    loop-holds
-    add-next-l
-    add-next-d
-    add-w
-    add-w-2
-    add-turn
-    loop-less
-    loop-again
-    add-result
-    add-result-2
-    returns)
+    (tie.spec Inv-loop μ-loop loop-holds add-next-l add-next-d add-w add-w-2 (λ c. search needs)
+    (λ c. search needs) loop-again add-result add-result-2 returns)

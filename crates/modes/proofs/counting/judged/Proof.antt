@@ -6,15 +6,9 @@ use borrow.Author.Needs.{needs}
 use Rattle.modes.proofs.counting.judged.Statement.{statement}
 use Rattle.modes.proofs.counting.judged.Tie as tie
 
-none-requires : tie.Need-none-requires
-none-requires c κs = search needs
-
-or-if-requires : tie.Need-or-if-requires
-or-if-requires c κs = search needs
-
 returns : tie.Need-returns
 unfolding countRefusal
 returns c = c .or-if .ensures ∙ next-row 15 (c .before .none .ensures) refl refl
 
 pub judged-spec : {M : Type 1} → statement M
-judged-spec = tie.close (tie.spec none-requires or-if-requires returns)
+judged-spec = tie.close (tie.spec (λ c κs. search needs) (λ c κs. search needs) returns)

@@ -8,12 +8,6 @@ use borrow.Author.Needs.{needs}
 use Rattle.modes.proofs.fitting.compared.Statement.{statement}
 use Rattle.modes.proofs.fitting.compared.Tie as tie
 
-first-misfit-requires : tie.Need-first-misfit-requires
-first-misfit-requires c κs = search needs
-
-add-if1 : tie.Need-add-if1
-add-if1 c = search needs
-
 returns : tie.Need-returns
 returns c =
     let k = c .before in
@@ -42,4 +36,4 @@ returns-2 c =
     (k .first-misfit .result) (k .first-misfit .ensures) (c .if1 .left)
 
 pub compared-spec : {M : Type 1} → statement M
-compared-spec = tie.close (tie.spec first-misfit-requires add-if1 returns cast-t10 returns-2)
+compared-spec = tie.close (tie.spec (λ c κs. search needs) (λ c. search needs) returns cast-t10 returns-2)

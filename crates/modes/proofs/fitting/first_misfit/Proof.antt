@@ -18,12 +18,6 @@ loop-holds c =
     let s = c .before .before in
     begins (s .args .road) (s .args .up) (s .args .down) (s .args .cells .now) (s .args .word .now) (s .pre .word-long) (s .pre .up-below)
 
-mul-own : tie.Need-mul-own Inv-loop μ-loop
-mul-own c = search needs
-
-shared-slice-read-own : tie.Need-shared-slice-read-own Inv-loop μ-loop
-shared-slice-read-own c = search needs
-
 letter-requires : tie.Need-letter-requires Inv-loop μ-loop
 letter-requires c κs =
     let l = c .before .before in
@@ -44,12 +38,6 @@ returns c =
     let s = l .before .before .before in
     differs (s .args .road) (s .args .up) (s .args .down) (s .args .cells .now) (s .args .word .now) (s .pre .word-long)
     (l .loop .left) (l .loop .i) (l .loop .inv) (f .letter .result) (test .loop-test .taken) (f .letter .ensures) (c .if1 .taken)
-
-add-i : tie.Need-add-i Inv-loop μ-loop
-add-i c = search needs
-
-loop-less : tie.Need-loop-less Inv-loop μ-loop
-loop-less c = search needs
 
 loop-again : tie.Need-loop-again Inv-loop μ-loop
 loop-again c =
@@ -99,20 +87,6 @@ returns-3 c =
 pub first-misfit-spec : {M : Type 1} → statement M
 first-misfit-spec =
     tie.close
-    (tie.spec
-    Inv-loop
-    μ-loop
-    loop-holds
-    mul-own
-    shared-slice-read-own
-    letter-requires
-    shared-slice-read-if1
-    returns
-    add-i
-    loop-less
-    loop-again
-    letter-requires-2
-    shared-slice-read-if2
-    returns-2
-    add-result
-    returns-3)
+    (tie.spec Inv-loop μ-loop loop-holds (λ c. search needs) (λ c. search needs) letter-requires
+    shared-slice-read-if1 returns (λ c. search needs) (λ c. search needs) loop-again letter-requires-2
+    shared-slice-read-if2 returns-2 add-result returns-3)

@@ -8,9 +8,6 @@ use borrow.Author.Needs.{needs}
 use Rattle.modes.proofs.fitting.fit.Statement.{statement}
 use Rattle.modes.proofs.fitting.fit.Tie as tie
 
-judged-requires : tie.Need-judged-requires
-judged-requires c κs = search needs
-
 returns : tie.Need-returns
 returns c =
     let j = c .before .before in
@@ -33,4 +30,4 @@ returns-2 c =
     done (s .args .road) (s .args .cells .now) (s .args .up) (s .args .down) (s .args .word .now) (nothing (c .before)) (c .compared .result) (c .compared .ensures)
 
 pub fit-spec : {M : Type 1} → statement M
-fit-spec = tie.close (tie.spec judged-requires returns compared-requires returns-2)
+fit-spec = tie.close (tie.spec (λ c κs. search needs) returns compared-requires returns-2)

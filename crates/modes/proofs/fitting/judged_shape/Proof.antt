@@ -7,18 +7,11 @@ use borrow.Author.Needs.{needs}
 use Rattle.modes.proofs.fitting.judged_shape.Statement.{statement}
 use Rattle.modes.proofs.fitting.judged_shape.Tie as tie
 
-bad-cells-requires : tie.Need-bad-cells-requires
-bad-cells-requires c κs = search needs
-
-judged-requires : tie.Need-judged-requires
-judged-requires c κs = search needs
-
-or-if-requires : tie.Need-or-if-requires
-or-if-requires c κs = search needs
-
 returns : tie.Need-returns
 unfolding fitShapeRefusal roadRefusal
 returns c = c .or-if .ensures ∙ next-row 5 (c .before .judged .ensures) (c .before .before .bad-cells .ensures) refl
 
 pub judged-shape-spec : {M : Type 1} → statement M
-judged-shape-spec = tie.close (tie.spec bad-cells-requires judged-requires or-if-requires returns)
+judged-shape-spec =
+    tie.close
+    (tie.spec (λ c κs. search needs) (λ c κs. search needs) (λ c κs. search needs) returns)

@@ -13,9 +13,6 @@ use borrow.Author.Needs.{needs}
 use Rattle.modes.proofs.numerators.constant_of.Statement.{statement}
 use Rattle.modes.proofs.numerators.constant_of.Tie as tie
 
-product-requires : tie.Need-product-requires
-product-requires c κs = search needs
-
 weighted-requires : tie.Need-weighted-requires
 weighted-requires c κs =
     let s = c .before in
@@ -23,18 +20,12 @@ weighted-requires c κs =
     let fits = critical-wave (s .args .mode) low high (s .args .road) ok in
     (low, (high, (lit< tt, asked (kept-product (c .product .ensures) fits) fits)))
 
-product-requires-2 : tie.Need-product-requires-2
-product-requires-2 c κs = search needs
-
 weighted-requires-2 : tie.Need-weighted-requires-2
 weighted-requires-2 c κs =
     let s = c .before .before .before in
     let (ok, (low, high)) = s .pre in
     let fits = critical-free (s .args .mode) low high (s .args .road) ok in
     (low, (high, (lit< tt, asked (kept-product (c .product2 .ensures) fits) fits)))
-
-product-requires-3 : tie.Need-product-requires-3
-product-requires-3 c κs = search needs
 
 weighted-requires-3 : tie.Need-weighted-requires-3
 weighted-requires-3 c κs =
@@ -93,13 +84,5 @@ returns c = three-kept (wave c) (free c) (full c) (small c)
 pub constant-of-spec : {M : Type 1} → statement M
 constant-of-spec =
     tie.close
-    (tie.spec
-    product-requires
-    weighted-requires
-    product-requires-2
-    weighted-requires-2
-    product-requires-3
-    weighted-requires-3
-    add-result
-    add-result-2
-    returns)
+    (tie.spec (λ c κs. search needs) weighted-requires (λ c κs. search needs) weighted-requires-2
+    (λ c κs. search needs) weighted-requires-3 add-result add-result-2 returns)

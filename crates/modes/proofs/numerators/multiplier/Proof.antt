@@ -9,24 +9,6 @@ use borrow.Author.Needs.{needs}
 use Rattle.modes.proofs.numerators.multiplier.Statement.{statement}
 use Rattle.modes.proofs.numerators.multiplier.Tie as tie
 
-sub-row : tie.Need-sub-row
-sub-row c = search needs
-
-cast-row : tie.Need-cast-row
-cast-row c = search needs
-
-mul-result : tie.Need-mul-result
-mul-result c = search needs
-
-mul-result-2 : tie.Need-mul-result-2
-mul-result-2 c = search needs
-
-index-1-result : tie.Need-index-1-result
-index-1-result c = search needs
-
-index-2-result : tie.Need-index-2-result
-index-2-result c = search needs
-
 returns : tie.Need-returns
 unfolding rowOf rowTable
 returns c =
@@ -36,4 +18,5 @@ returns c =
 pub multiplier-spec : {M : Type 1} → statement M
 multiplier-spec =
     tie.close
-    (tie.spec sub-row cast-row mul-result mul-result-2 index-1-result index-2-result returns)
+    (tie.spec (λ c. search needs) (λ c. search needs) (λ c. search needs) (λ c. search needs)
+    (λ c. search needs) (λ c. search needs) returns)

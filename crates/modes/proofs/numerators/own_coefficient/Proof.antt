@@ -14,15 +14,6 @@ use borrow.Author.Needs.{needs}
 use Rattle.modes.proofs.numerators.own_coefficient.Statement.{statement}
 use Rattle.modes.proofs.numerators.own_coefficient.Tie as tie
 
-weighted-speed-requires : tie.Need-weighted-speed-requires
-weighted-speed-requires c κs = search needs
-
-weighted-speed-requires-2 : tie.Need-weighted-speed-requires-2
-weighted-speed-requires-2 c κs = search needs
-
-cast-result : tie.Need-cast-result
-cast-result c = search needs
-
 -- the three numbers as they are read back, and their sizes
 divisor : (c : tie.After-struct-known) → let s = c .before .before .before in toZ w64 (s .args .road .divisor) ≡ pos (s .args .road .divisor)
 divisor c = let ok = c .before .before .before .pre .0 in kept-pos _ (omega arith)
@@ -62,10 +53,5 @@ returns c = three-kept (divisor c) (free c) (wave c) (small c)
 pub own-coefficient-spec : {M : Type 1} → statement M
 own-coefficient-spec =
     tie.close
-    (tie.spec
-    weighted-speed-requires
-    weighted-speed-requires-2
-    cast-result
-    add-result
-    add-result-2
+    (tie.spec (λ c κs. search needs) (λ c κs. search needs) (λ c. search needs) add-result add-result-2
     returns)

@@ -5,27 +5,6 @@ use borrow.Author.Needs.{needs}
 use Rattle.modes.proofs.numerators.rows_of.Statement.{statement}
 use Rattle.modes.proofs.numerators.rows_of.Tie as tie
 
-of-requires : tie.Need-of-requires
-of-requires c κs = search needs
-
-of-requires-2 : tie.Need-of-requires-2
-of-requires-2 c κs = search needs
-
-of-requires-3 : tie.Need-of-requires-3
-of-requires-3 c κs = search needs
-
-of-requires-4 : tie.Need-of-requires-4
-of-requires-4 c κs = search needs
-
-of-requires-5 : tie.Need-of-requires-5
-of-requires-5 c κs = search needs
-
-of-requires-6 : tie.Need-of-requires-6
-of-requires-6 c κs = search needs
-
-of-requires-7 : tie.Need-of-requires-7
-of-requires-7 c κs = search needs
-
 returns : tie.Need-returns
 unfolding wholeRows
 returns c =
@@ -47,12 +26,5 @@ returns c =
 pub rows-of-spec : {M : Type 1} → statement M
 rows-of-spec =
     tie.close
-    (tie.spec
-    of-requires
-    of-requires-2
-    of-requires-3
-    of-requires-4
-    of-requires-5
-    of-requires-6
-    of-requires-7
-    returns)
+    (tie.spec (λ c κs. search needs) (λ c κs. search needs) (λ c κs. search needs) (λ c κs. search needs)
+    (λ c κs. search needs) (λ c κs. search needs) (λ c κs. search needs) returns)

@@ -15,9 +15,6 @@ use borrow.Author.Needs.{needs}
 use Rattle.modes.proofs.numerators.weighted.Statement.{statement}
 use Rattle.modes.proofs.numerators.weighted.Tie as tie
 
-multiplier-requires : tie.Need-multiplier-requires
-multiplier-requires c κs = search needs
-
 -- the two factors as they are read back, and the size of what they make
 factors : (c : tie.After-multiplier) → let s = c .before in
     toZ w64 (ofZ w64 (c .multiplier .result)) *ℤ toZ w64 (ofZ w64 (s .args .term))
@@ -43,4 +40,4 @@ returns : tie.Need-returns
 returns c = kept (factors c) (small c)
 
 pub weighted-spec : {M : Type 1} → statement M
-weighted-spec = tie.close (tie.spec multiplier-requires mul-result returns)
+weighted-spec = tie.close (tie.spec (λ c κs. search needs) mul-result returns)

@@ -7,9 +7,6 @@ use borrow.Author.Needs.{needs}
 use Rattle.modes.proofs.numerators.weighted_speed.Statement.{statement}
 use Rattle.modes.proofs.numerators.weighted_speed.Tie as tie
 
-cast-weighted : tie.Need-cast-weighted
-cast-weighted c = search needs
-
 weighted-requires : tie.Need-weighted-requires
 weighted-requires c κs =
     let (low, (high, (inside, small))) = c .pre in
@@ -23,4 +20,4 @@ returns c =
     (kept-pos (s .args .speed) (le-trans small (lit≤ tt))) (c .weighted .ensures)
 
 pub weighted-speed-spec : {M : Type 1} → statement M
-weighted-speed-spec = tie.close (tie.spec cast-weighted weighted-requires returns)
+weighted-speed-spec = tie.close (tie.spec (λ c. search needs) weighted-requires returns)

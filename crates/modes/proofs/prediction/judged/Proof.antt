@@ -8,9 +8,6 @@ use borrow.Author.Needs.{needs}
 use Rattle.modes.proofs.prediction.judged.Statement.{statement}
 use Rattle.modes.proofs.prediction.judged.Tie as tie
 
-judged-shape-requires : tie.Need-judged-shape-requires
-judged-shape-requires c κs = search needs
-
 returns : tie.Need-returns
 returns c =
     let j = c .before .before in
@@ -35,4 +32,4 @@ returns-2 c =
     (c .or-pair-and-word .ensures)
 
 pub judged-spec : {M : Type 1} → statement M
-judged-spec = tie.close (tie.spec judged-shape-requires returns or-pair-and-word-requires returns-2)
+judged-spec = tie.close (tie.spec (λ c κs. search needs) returns or-pair-and-word-requires returns-2)

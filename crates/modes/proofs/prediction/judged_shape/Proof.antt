@@ -7,21 +7,6 @@ use borrow.Author.Needs.{needs}
 use Rattle.modes.proofs.prediction.judged_shape.Statement.{statement}
 use Rattle.modes.proofs.prediction.judged_shape.Tie as tie
 
-bad-cells-requires : tie.Need-bad-cells-requires
-bad-cells-requires c κs = search needs
-
-bad-output-requires : tie.Need-bad-output-requires
-bad-output-requires c κs = search needs
-
-judged-requires : tie.Need-judged-requires
-judged-requires c κs = search needs
-
-or-if-requires : tie.Need-or-if-requires
-or-if-requires c κs = search needs
-
-or-if-requires-2 : tie.Need-or-if-requires-2
-or-if-requires-2 c κs = search needs
-
 returns : tie.Need-returns
 unfolding predictShapeRefusal roadRefusal
 returns c =
@@ -37,10 +22,5 @@ returns c =
 pub judged-shape-spec : {M : Type 1} → statement M
 judged-shape-spec =
     tie.close
-    (tie.spec
-    bad-cells-requires
-    bad-output-requires
-    judged-requires
-    or-if-requires
-    or-if-requires-2
-    returns)
+    (tie.spec (λ c κs. search needs) (λ c κs. search needs) (λ c κs. search needs) (λ c κs. search needs)
+    (λ c κs. search needs) returns)

@@ -9,9 +9,6 @@ use borrow.Author.Needs.{needs}
 use Rattle.modes.proofs.prediction.predict.Statement.{statement}
 use Rattle.modes.proofs.prediction.predict.Tie as tie
 
-judged-requires : tie.Need-judged-requires
-judged-requires c κs = search needs
-
 returns : tie.Need-returns
 returns c =
     let j = c .before .before in
@@ -29,9 +26,6 @@ write-rows-requires c κs =
     let s = c .before .before .before .before .before .before in
     checked (predict-call (s .args .road) (s .args .cells .now) (s .args .up) (s .args .down) (s .args .word .now) (length (s .args .out .now))) (nothing (c .before))
 
-same-length : tie.Need-same-length
-same-length c = search needs
-
 returns-2 : tie.Need-returns-2
 returns-2 c =
     let wrote = c .before in
@@ -42,4 +36,5 @@ returns-2 c =
 
 pub predict-spec : {M : Type 1} → statement M
 predict-spec =
-    tie.close (tie.spec judged-requires returns write-rows-requires same-length returns-2)
+    tie.close
+    (tie.spec (λ c κs. search needs) returns write-rows-requires (λ c. search needs) returns-2)

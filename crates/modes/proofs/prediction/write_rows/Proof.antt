@@ -38,18 +38,6 @@ midway : (c : tie.At-loop Inv-loop μ-loop) → let s = c .before .before .befor
     Midway (s .args .road) (s .args .up) (s .args .down) (s .args .word .now) (s .args .cells .now) (c .loop .out) (c .loop .left) (c .loop .i)
 midway c = let s = c .before .before .before .before in c .loop .inv (s .args .road) (c .before .rows-of .ensures) (s .pre)
 
-mul-own : tie.Need-mul-own Inv-loop μ-loop
-mul-own c = search needs
-
-shared-slice-read-own : tie.Need-shared-slice-read-own Inv-loop μ-loop
-shared-slice-read-own c = search needs
-
-add-density-at : tie.Need-add-density-at Inv-loop μ-loop
-add-density-at c = search needs
-
-density-at-requires : tie.Need-density-at-requires Inv-loop μ-loop
-density-at-requires c κs = search needs
-
 shared-slice-read-mode-of : tie.Need-shared-slice-read-mode-of Inv-loop μ-loop
 shared-slice-read-mode-of c =
     let l = c .before .before .before .before in
@@ -57,18 +45,12 @@ shared-slice-read-mode-of c =
     let h = c .before .before .before .loop-test .taken in
     omega arith
 
-add-mode-of : tie.Need-add-mode-of Inv-loop μ-loop
-add-mode-of c = search needs
-
 shared-slice-read-mode-of-2 : tie.Need-shared-slice-read-mode-of-2 Inv-loop μ-loop
 shared-slice-read-mode-of-2 c =
     let l = c .before .before .before .before .before in
     let long = l .before .before .before .before .pre .word-long in
     let h = c .before .before .before .before .loop-test .taken in
     omega arith
-
-mode-of-requires : tie.Need-mode-of-requires Inv-loop μ-loop
-mode-of-requires c κs = search needs
 
 -- a legal word's letters have a mode
 numbered : (c : tie.After-mode-of Inv-loop μ-loop) → (1 ≤ c .mode-of .result) × (c .mode-of .result ≤ 7)
@@ -181,28 +163,7 @@ returns c =
 pub write-rows-spec : {M : Type 1} → statement M
 write-rows-spec =
     tie.close
-    (tie.spec
-    Inv-loop
-    μ-loop
-    rows-of-requires
-    loop-holds
-    mul-own
-    shared-slice-read-own
-    add-density-at
-    density-at-requires
-    shared-slice-read-mode-of
-    add-mode-of
-    shared-slice-read-mode-of-2
-    mode-of-requires
-    sub-place
-    cast-place
-    mul-row
-    array-copy-out-row
-    applied-requires
-    mul-t15
-    slice-set-from-out
-    add-i
-    loop-less
-    loop-again
-    same-length
-    returns)
+    (tie.spec Inv-loop μ-loop rows-of-requires loop-holds (λ c. search needs) (λ c. search needs)
+    (λ c. search needs) (λ c κs. search needs) shared-slice-read-mode-of (λ c. search needs)
+    shared-slice-read-mode-of-2 (λ c κs. search needs) sub-place cast-place mul-row array-copy-out-row
+    applied-requires mul-t15 slice-set-from-out add-i loop-less loop-again same-length returns)

@@ -8,30 +8,6 @@ use borrow.Author.Needs.{needs}
 use Rattle.modes.proofs.reading.judged_shape.Statement.{statement}
 use Rattle.modes.proofs.reading.judged_shape.Tie as tie
 
-bad-cells-requires : tie.Need-bad-cells-requires
-bad-cells-requires c κs = search needs
-
-add-bad-output : tie.Need-add-bad-output
-add-bad-output c = search needs
-
-bad-output-requires : tie.Need-bad-output-requires
-bad-output-requires c κs = search needs
-
-bad-output-requires-2 : tie.Need-bad-output-requires-2
-bad-output-requires-2 c κs = search needs
-
-either-requires : tie.Need-either-requires
-either-requires c κs = search needs
-
-judged-requires : tie.Need-judged-requires
-judged-requires c κs = search needs
-
-or-if-requires : tie.Need-or-if-requires
-or-if-requires c κs = search needs
-
-or-if-requires-2 : tie.Need-or-if-requires-2
-or-if-requires-2 c κs = search needs
-
 returns : tie.Need-returns
 unfolding readShapeRefusal roadRefusal
 returns c =
@@ -49,13 +25,5 @@ returns c =
 pub judged-shape-spec : {M : Type 1} → statement M
 judged-shape-spec =
     tie.close
-    (tie.spec
-    bad-cells-requires
-    add-bad-output
-    bad-output-requires
-    bad-output-requires-2
-    either-requires
-    judged-requires
-    or-if-requires
-    or-if-requires-2
-    returns)
+    (tie.spec (λ c κs. search needs) (λ c. search needs) (λ c κs. search needs) (λ c κs. search needs)
+    (λ c κs. search needs) (λ c κs. search needs) (λ c κs. search needs) (λ c κs. search needs) returns)

@@ -8,9 +8,6 @@ use borrow.Author.Needs.{needs}
 use Rattle.modes.proofs.reading.read.Statement.{statement}
 use Rattle.modes.proofs.reading.read.Tie as tie
 
-judged-requires : tie.Need-judged-requires
-judged-requires c κs = search needs
-
 returns : tie.Need-returns
 returns c =
     let j = c .before .before in
@@ -48,12 +45,6 @@ tally-requires c κs =
     (lettered .write-letters .last .1 .1 .1 .1 .0) (lettered .write-letters .ensures)
     (moded .write-modes .last .1 .0) (moded .write-modes .ensures)
 
-same-length : tie.Need-same-length
-same-length c = search needs
-
-same-length-2 : tie.Need-same-length-2
-same-length-2 c = search needs
-
 returns-2 : tie.Need-returns-2
 returns-2 c =
     let moded = c .before .before .before .before in
@@ -67,12 +58,5 @@ returns-2 c =
 pub read-spec : {M : Type 1} → statement M
 read-spec =
     tie.close
-    (tie.spec
-    judged-requires
-    returns
-    write-letters-requires
-    write-modes-requires
-    tally-requires
-    same-length
-    same-length-2
-    returns-2)
+    (tie.spec (λ c κs. search needs) returns write-letters-requires write-modes-requires tally-requires
+    (λ c. search needs) (λ c. search needs) returns-2)

@@ -6,14 +6,8 @@ use borrow.Author.Needs.{needs}
 use Rattle.modes.proofs.tallying.is_queued.Statement.{statement}
 use Rattle.modes.proofs.tallying.is_queued.Tie as tie
 
-either-requires : tie.Need-either-requires
-either-requires c κs = search needs
-
-either-requires-2 : tie.Need-either-requires-2
-either-requires-2 c κs = search needs
-
 returns : tie.Need-returns
 returns c = c .either2 .ensures ∙ ap (or (eqb (c .before .before .args .mode) 1)) (c .before .either .ensures)
 
 pub is-queued-spec : {M : Type 1} → statement M
-is-queued-spec = tie.close (tie.spec either-requires either-requires-2 returns)
+is-queued-spec = tie.close (tie.spec (λ c κs. search needs) (λ c κs. search needs) returns)

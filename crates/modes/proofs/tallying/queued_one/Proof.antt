@@ -4,9 +4,6 @@ use borrow.Author.Needs.{needs}
 use Rattle.modes.proofs.tallying.queued_one.Statement.{statement}
 use Rattle.modes.proofs.tallying.queued_one.Tie as tie
 
-is-queued-requires : tie.Need-is-queued-requires
-is-queued-requires c κs = search needs
-
 returns : tie.Need-returns
 returns c = rw (sym (c .before .is-queued .ensures) ∙ c .if1 .taken)
 
@@ -14,4 +11,4 @@ returns-2 : tie.Need-returns-2
 returns-2 c = rw (sym (c .before .is-queued .ensures) ∙ c .if1 .left)
 
 pub queued-one-spec : {M : Type 1} → statement M
-queued-one-spec = tie.close (tie.spec is-queued-requires returns returns-2)
+queued-one-spec = tie.close (tie.spec (λ c κs. search needs) returns returns-2)

@@ -17,9 +17,6 @@ abbrev μ-loop : tie.MeasureT-loop
 loop-holds : tie.Need-loop-holds Inv-loop μ-loop
 loop-holds c = begins (c .before .args .modes .now)
 
-shared-slice-read-mode : tie.Need-shared-slice-read-mode Inv-loop μ-loop
-shared-slice-read-mode c = search needs
-
 -- the mode that is read is one of the seven
 numbered : (c : tie.After-shared-slice-known2 Inv-loop μ-loop)
     → let m = getD (c .before .before .before .before .args .modes .now) (c .before .before .loop .i) 0 in (1 ≤ m) × (m ≤ 7)
@@ -49,21 +46,12 @@ mul-counts-2 c = let n = numbered c in omega arith
 array-write-counts : tie.Need-array-write-counts Inv-loop μ-loop
 array-write-counts c = let n = numbered c in omega arith
 
-queued-one-requires : tie.Need-queued-one-requires Inv-loop μ-loop
-queued-one-requires c κs = search needs
-
 add-queued : tie.Need-add-queued Inv-loop μ-loop
 add-queued c =
     let l = c .before .before .before in
     let s = l .before .before in
     let mode = getD (s .args .modes .now) (l .loop .i) 0 in
     omega (arith, l .loop .inv .few, l .loop .inv .inside, s .pre .0, c .queued-one .ensures, one-at-most (isQueued mode))
-
-add-i : tie.Need-add-i Inv-loop μ-loop
-add-i c = search needs
-
-loop-less : tie.Need-loop-less Inv-loop μ-loop
-loop-less c = search needs
 
 loop-again : tie.Need-loop-again Inv-loop μ-loop
 loop-again c =
@@ -78,21 +66,6 @@ returns c = ends (c .before .before .before .args .modes .now) (c .before .loop 
 pub tally-spec : {M : Type 1} → statement M
 tally-spec =
     tie.close
-    (tie.spec
-    Inv-loop
-    μ-loop
-    loop-holds
-    shared-slice-read-mode
-    sub-place
-    cast-place
-    mul-counts
-    array-read-counts
-    add-counts
-    mul-counts-2
-    array-write-counts
-    queued-one-requires
-    add-queued
-    add-i
-    loop-less
-    loop-again
-    returns)
+    (tie.spec Inv-loop μ-loop loop-holds (λ c. search needs) sub-place cast-place mul-counts
+    array-read-counts add-counts mul-counts-2 array-write-counts (λ c κs. search needs) add-queued
+    (λ c. search needs) (λ c. search needs) loop-again returns)

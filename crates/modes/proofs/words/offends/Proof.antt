@@ -8,12 +8,9 @@ use borrow.Author.Needs.{needs}
 use Rattle.modes.proofs.words.offends.Statement.{statement}
 use Rattle.modes.proofs.words.offends.Tie as tie
 
-is-illegal-requires : tie.Need-is-illegal-requires
-is-illegal-requires c κs = search needs
-
 returns : tie.Need-returns
 unfolding offends
 returns c = ap (or (ltb letterD (c .before .args .s))) (c .is-illegal .ensures)
 
 pub offends-spec : {M : Type 1} → statement M
-offends-spec = tie.close (tie.spec is-illegal-requires returns)
+offends-spec = tie.close (tie.spec (λ c κs. search needs) returns)

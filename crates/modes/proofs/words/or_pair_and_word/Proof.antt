@@ -5,14 +5,8 @@ use borrow.Author.Needs.{needs}
 use Rattle.modes.proofs.words.or_pair_and_word.Statement.{statement}
 use Rattle.modes.proofs.words.or_pair_and_word.Tie as tie
 
-or-pair-requires : tie.Need-or-pair-requires
-or-pair-requires c κs = search needs
-
-or-word-requires : tie.Need-or-word-requires
-or-word-requires c κs = search needs
-
 returns : tie.Need-returns
 returns c = c .or-word .ensures ∙ next-row 12 (c .before .or-pair .ensures) refl refl
 
 pub or-pair-and-word-spec : {M : Type 1} → statement M
-or-pair-and-word-spec = tie.close (tie.spec or-pair-requires or-word-requires returns)
+or-pair-and-word-spec = tie.close (tie.spec (λ c κs. search needs) (λ c κs. search needs) returns)

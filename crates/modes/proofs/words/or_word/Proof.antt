@@ -9,28 +9,10 @@ use borrow.Author.Needs.{needs}
 use Rattle.modes.proofs.words.or_word.Statement.{statement}
 use Rattle.modes.proofs.words.or_word.Tie as tie
 
-add-if1 : tie.Need-add-if1
-add-if1 c = search needs
-
-first-offence-requires : tie.Need-first-offence-requires
-first-offence-requires c κs = search needs
-
 cast-or-if : tie.Need-cast-or-if
 cast-or-if c =
     let s = c .before .before .before in
     omega (arith, first-bound letterD (s .args .word .now), c .first-offence .ensures, c .before .if1 .taken, s .pre)
-
-or-if-requires : tie.Need-or-if-requires
-or-if-requires c κs = search needs
-
-add-or-if : tie.Need-add-or-if
-add-or-if c = search needs
-
-cast-or-if-2 : tie.Need-cast-or-if-2
-cast-or-if-2 c = search needs
-
-or-if-requires-2 : tie.Need-or-if-requires-2
-or-if-requires-2 c κs = search needs
 
 returns : tie.Need-returns
 returns c =
@@ -51,13 +33,5 @@ returns-2 c =
 pub or-word-spec : {M : Type 1} → statement M
 or-word-spec =
     tie.close
-    (tie.spec
-    add-if1
-    first-offence-requires
-    cast-or-if
-    or-if-requires
-    add-or-if
-    cast-or-if-2
-    or-if-requires-2
-    returns
-    returns-2)
+    (tie.spec (λ c. search needs) (λ c κs. search needs) cast-or-if (λ c κs. search needs)
+    (λ c. search needs) (λ c. search needs) (λ c κs. search needs) returns returns-2)

@@ -19,12 +19,6 @@ loop-holds c =
     let s = c .before .before in
     begins (s .args .road) (s .args .up) (s .args .down) (s .args .cells .now) (s .args .letters .now) (s .pre .1 .1 .1 .1) (s .pre .1 .1 .0)
 
-mul-own : tie.Need-mul-own Inv-loop μ-loop
-mul-own c = search needs
-
-shared-slice-read-own : tie.Need-shared-slice-read-own Inv-loop μ-loop
-shared-slice-read-own c = search needs
-
 letter-requires : tie.Need-letter-requires Inv-loop μ-loop
 letter-requires c κs =
     let l = c .before .before in
@@ -33,12 +27,6 @@ letter-requires c κs =
 
 slice-write-letters : tie.Need-slice-write-letters Inv-loop μ-loop
 slice-write-letters c = let l = c .before .before .before .loop .inv .long in omega arith
-
-add-i : tie.Need-add-i Inv-loop μ-loop
-add-i c = search needs
-
-loop-less : tie.Need-loop-less Inv-loop μ-loop
-loop-less c = search needs
 
 loop-again : tie.Need-loop-again Inv-loop μ-loop
 loop-again c =
@@ -72,18 +60,6 @@ returns c =
 pub write-letters-spec : {M : Type 1} → statement M
 write-letters-spec =
     tie.close
-    (tie.spec
-    Inv-loop
-    μ-loop
-    loop-holds
-    mul-own
-    shared-slice-read-own
-    letter-requires
-    slice-write-letters
-    add-i
-    loop-less
-    loop-again
-    letter-requires-2
-    slice-write-letters-2
-    same-length
-    returns)
+    (tie.spec Inv-loop μ-loop loop-holds (λ c. search needs) (λ c. search needs) letter-requires
+    slice-write-letters (λ c. search needs) (λ c. search needs) loop-again letter-requires-2
+    slice-write-letters-2 same-length returns)

@@ -19,20 +19,8 @@ loop-holds c = let s = c .before .before in begins (s .args .word .now) (s .args
 shared-slice-read-mode-of : tie.Need-shared-slice-read-mode-of Inv-loop μ-loop
 shared-slice-read-mode-of c = let l = c .before .before .loop .inv .long in omega arith
 
-add-mode-of : tie.Need-add-mode-of Inv-loop μ-loop
-add-mode-of c = search needs
-
 shared-slice-read-mode-of-2 : tie.Need-shared-slice-read-mode-of-2 Inv-loop μ-loop
 shared-slice-read-mode-of-2 c = let l = c .before .before .before .loop .inv .long in omega arith
-
-mode-of-requires : tie.Need-mode-of-requires Inv-loop μ-loop
-mode-of-requires c κs = search needs
-
-slice-write-modes : tie.Need-slice-write-modes Inv-loop μ-loop
-slice-write-modes c = search needs
-
-add-i : tie.Need-add-i Inv-loop μ-loop
-add-i c = search needs
 
 loop-less : tie.Need-loop-less Inv-loop μ-loop
 loop-less c = simp length-set (omega arith)
@@ -56,17 +44,6 @@ returns c =
 pub write-modes-spec : {M : Type 1} → statement M
 write-modes-spec =
     tie.close
-    (tie.spec
-    Inv-loop
-    μ-loop
-    loop-holds
-    shared-slice-read-mode-of
-    add-mode-of
-    shared-slice-read-mode-of-2
-    mode-of-requires
-    slice-write-modes
-    add-i
-    loop-less
-    loop-again
-    same-length
-    returns)
+    (tie.spec Inv-loop μ-loop loop-holds shared-slice-read-mode-of (λ c. search needs)
+    shared-slice-read-mode-of-2 (λ c κs. search needs) (λ c. search needs) (λ c. search needs) loop-less
+    loop-again same-length returns)

@@ -9,20 +9,11 @@ use borrow.Author.Needs.{needs}
 use Rattle.picture.proofs.bitmap.header_word.Statement.{statement}
 use Rattle.picture.proofs.bitmap.header_word.Tie as tie
 
-row-bytes-requires : tie.Need-row-bytes-requires
-row-bytes-requires c κs = search needs
-
 mul-pixels : tie.Need-mul-pixels
 mul-pixels c = let h = pixels-few (c .row-bytes .result) (c .before .args .height) (omega arith) (search needs) in record { fits = omega arith }
 
 add-result : tie.Need-add-result
 add-result c = let h = pixels-few (c .row-bytes .result) (c .before .args .height) (omega arith) (search needs) in record { fits = omega arith }
-
-mul-result : tie.Need-mul-result
-mul-result c = search needs
-
-array-read-result : tie.Need-array-read-result
-array-read-result c = search needs
 
 returns : tie.Need-returns
 unfolding headerWord
@@ -33,4 +24,4 @@ returns c =
 pub header-word-spec : {M : Type 1} → statement M
 header-word-spec =
     tie.close
-    (tie.spec row-bytes-requires mul-pixels add-result mul-result array-read-result returns)
+    (tie.spec (λ c κs. search needs) mul-pixels add-result (λ c. search needs) (λ c. search needs) returns)

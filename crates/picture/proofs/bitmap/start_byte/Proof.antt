@@ -7,18 +7,6 @@ use Rattle.picture.specs.Bitmap.{byteOf, startByte}
 use Rattle.picture.proofs.bitmap.start_byte.Statement.{statement}
 use Rattle.picture.proofs.bitmap.start_byte.Tie as tie
 
-letter-byte-requires : tie.Need-letter-byte-requires
-letter-byte-requires c κs = search needs
-
-header-word-requires : tie.Need-header-word-requires
-header-word-requires c κs = search needs
-
-byte-of-requires : tie.Need-byte-of-requires
-byte-of-requires c κs = search needs
-
-palette-byte-requires : tie.Need-palette-byte-requires
-palette-byte-requires c κs = search needs
-
 returns : tie.Need-returns
 unfolding startByte
 returns c = simp (lt-ltb _ 2 (c .before .if1 .taken)) (c .letter-byte .ensures)
@@ -43,12 +31,5 @@ returns-4 c = simp (le-ltb _ 2 (c .before .before .if1 .left), le-ltb _ 54 (c .b
 pub start-byte-spec : {M : Type 1} → statement M
 start-byte-spec =
     tie.close
-    (tie.spec
-    letter-byte-requires
-    header-word-requires
-    byte-of-requires
-    palette-byte-requires
-    returns
-    returns-2
-    returns-3
-    returns-4)
+    (tie.spec (λ c κs. search needs) (λ c κs. search needs) (λ c κs. search needs) (λ c κs. search needs)
+    returns returns-2 returns-3 returns-4)

@@ -5,12 +5,6 @@ use Rattle.picture.proofs.Laws.{below-256}
 use Rattle.picture.proofs.palette.shade.Statement.{statement}
 use Rattle.picture.proofs.palette.shade.Tie as tie
 
-mul-result : tie.Need-mul-result
-mul-result c = search needs
-
-div-result : tie.Need-div-result
-div-result c = search needs
-
 cast-result : tie.Need-cast-result
 cast-result c = record { fits = below-256 _ _ (search needs) }
 
@@ -21,4 +15,4 @@ returns-2 : tie.Need-returns-2
 returns-2 c = simp (le-ltb _ _ (c .if1 .left))
 
 pub shade-spec : {M : Type 1} → statement M
-shade-spec = tie.close (tie.spec mul-result div-result cast-result returns returns-2)
+shade-spec = tie.close (tie.spec (λ c. search needs) (λ c. search needs) cast-result returns returns-2)

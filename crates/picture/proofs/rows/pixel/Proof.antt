@@ -11,12 +11,6 @@ returns : tie.Need-returns
 unfolding pixelOf
 returns c = simp (eq-eqb _ _ (c .if1 .taken))
 
-div-step : tie.Need-div-step
-div-step c = search needs
-
-shared-slice-read-result : tie.Need-shared-slice-read-result
-shared-slice-read-result c = search needs
-
 returns-2 : tie.Need-returns-2
 unfolding pixelOf
 returns-2 c = simp (ne-eqb _ _ (c .before .before .if1 .left))
@@ -26,4 +20,4 @@ unfolding pixelOf
 returns-3 c = simp (ne-eqb _ _ (c .before .if1 .left)) (sym (List·getD-eq-default (c .before .before .args .shades .now) 0 (c .if2 .left)))
 
 pub pixel-spec : {M : Type 1} → statement M
-pixel-spec = tie.close (tie.spec returns div-step shared-slice-read-result returns-2 returns-3)
+pixel-spec = tie.close (tie.spec returns (λ c. search needs) (λ c. search needs) returns-2 returns-3)

@@ -8,9 +8,6 @@ use Rattle.picture.proofs.sizes.scale.Tie as tie
 returns : tie.Need-returns
 returns c = simp (eq-eqb _ _ (c .if1 .taken))
 
-div-whole : tie.Need-div-whole
-div-whole c = search needs
-
 returns-2 : tie.Need-returns-2
 returns-2 c = simp (ne-eqb _ _ (c .before .if1 .left)) (omega arith)
 
@@ -21,4 +18,4 @@ returns-4 : tie.Need-returns-4
 returns-4 c = simp (ne-eqb _ _ (c .before .before .if1 .left)) (omega arith)
 
 pub scale-spec : {M : Type 1} → statement M
-scale-spec = tie.close (tie.spec returns div-whole returns-2 returns-3 returns-4)
+scale-spec = tie.close (tie.spec returns (λ c. search needs) returns-2 returns-3 returns-4)

@@ -8,19 +8,11 @@ use Rattle.printing.proofs.doubles.of_bits.Tie as tie
 float-from-bits-result : tie.Need-float-from-bits-result
 float-from-bits-result c = digits-clear (c .before .args .n) (eq-eqb _ _ (c .if1 .taken))
 
-returns : tie.Need-returns
-returns c = search needs
-
-returns-2 : tie.Need-returns-2
-returns-2 c = search needs
-
 float-from-bits-result-2 : tie.Need-float-from-bits-result-2
 float-from-bits-result-2 c = exponent-clear (c .before .before .args .n) (ne-eqb _ _ (c .if2 .left))
-
-returns-3 : tie.Need-returns-3
-returns-3 c = search needs
 
 pub of-bits-spec : {M : Type 1} → statement M
 of-bits-spec =
     tie.close
-    (tie.spec float-from-bits-result returns returns-2 float-from-bits-result-2 returns-3)
+    (tie.spec float-from-bits-result (λ c. search needs) (λ c. search needs) float-from-bits-result-2
+    (λ c. search needs))

@@ -25,13 +25,8 @@ cast-result-2 c = lower c .2
 add-result-2 : tie.Need-add-result-2
 add-result-2 c = lower c .3
 
-returns : tie.Need-returns
-returns c = search needs
-
-returns-2 : tie.Need-returns-2
-returns-2 c = search needs
-
 pub size-spec : {M : Type 1} → statement M
 size-spec =
     tie.close
-    (tie.spec cast-result add-result sub-result cast-result-2 add-result-2 returns returns-2)
+    (tie.spec cast-result add-result sub-result cast-result-2 add-result-2 (λ c. search needs)
+    (λ c. search needs))

@@ -4,9 +4,6 @@ use borrow.Author.Needs.{needs}
 use Rattle.request.proofs.numbers.faces.Statement.{statement}
 use Rattle.request.proofs.numbers.faces.Tie as tie
 
-add-result : tie.Need-add-result
-add-result c = search needs
-
 returns : tie.Need-returns
 returns c = counts _ _ (search needs)
 
@@ -14,4 +11,4 @@ returns-2 : tie.Need-returns-2
 returns-2 c = counts _ _ (search needs)
 
 pub faces-spec : {M : Type 1} → statement M
-faces-spec = tie.close (tie.spec add-result returns returns-2)
+faces-spec = tie.close (tie.spec (λ c. search needs) returns returns-2)

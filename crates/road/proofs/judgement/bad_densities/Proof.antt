@@ -7,18 +7,6 @@ use borrow.Author.Needs.{needs}
 use Rattle.road.proofs.judgement.bad_densities.Statement.{statement}
 use Rattle.road.proofs.judgement.bad_densities.Tie as tie
 
-is-outside-requires : tie.Need-is-outside-requires
-is-outside-requires c κs = search needs
-
-less-requires : tie.Need-less-requires
-less-requires c κs = search needs
-
-is-outside-requires-2 : tie.Need-is-outside-requires-2
-is-outside-requires-2 c κs = search needs
-
-either-requires : tie.Need-either-requires
-either-requires c κs = search needs
-
 returns : tie.Need-returns
 returns c =
     let r = c .before .before .before .before .args .r in
@@ -29,4 +17,5 @@ returns c =
 pub bad-densities-spec : {M : Type 1} → statement M
 bad-densities-spec =
     tie.close
-    (tie.spec is-outside-requires less-requires is-outside-requires-2 either-requires returns)
+    (tie.spec (λ c κs. search needs) (λ c κs. search needs) (λ c κs. search needs) (λ c κs. search needs)
+    returns)

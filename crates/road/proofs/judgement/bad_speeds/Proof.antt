@@ -5,18 +5,10 @@ use borrow.Author.Needs.{needs}
 use Rattle.road.proofs.judgement.bad_speeds.Statement.{statement}
 use Rattle.road.proofs.judgement.bad_speeds.Tie as tie
 
-is-outside-requires : tie.Need-is-outside-requires
-is-outside-requires c κs = search needs
-
-is-outside-requires-2 : tie.Need-is-outside-requires-2
-is-outside-requires-2 c κs = search needs
-
-either-requires : tie.Need-either-requires
-either-requires c κs = search needs
-
 returns : tie.Need-returns
 returns c = c .either .ensures ∙ ap₂ or (c .before .before .is-outside .ensures) (c .before .is-outside2 .ensures)
 
 pub bad-speeds-spec : {M : Type 1} → statement M
 bad-speeds-spec =
-    tie.close (tie.spec is-outside-requires is-outside-requires-2 either-requires returns)
+    tie.close
+    (tie.spec (λ c κs. search needs) (λ c κs. search needs) (λ c κs. search needs) returns)

@@ -8,23 +8,8 @@ use borrow.Author.Needs.{needs}
 use Rattle.road.proofs.judgement.is_unbalanced.Statement.{statement}
 use Rattle.road.proofs.judgement.is_unbalanced.Tie as tie
 
-cast-sent : tie.Need-cast-sent
-cast-sent c = search needs
-
-cast-sent-2 : tie.Need-cast-sent-2
-cast-sent-2 c = search needs
-
 mul-sent : tie.Need-mul-sent
 mul-sent c = record { fits = below 32 (search needs) (search needs) }
-
-cast-received : tie.Need-cast-received
-cast-received c = search needs
-
-less-requires : tie.Need-less-requires
-less-requires c κs = search needs
-
-cast-received-2 : tie.Need-cast-received-2
-cast-received-2 c = search needs
 
 mul-received : tie.Need-mul-received
 mul-received c = record { fits = below 32 (search needs) (search needs) }
@@ -37,12 +22,5 @@ returns c =
 pub is-unbalanced-spec : {M : Type 1} → statement M
 is-unbalanced-spec =
     tie.close
-    (tie.spec
-    cast-sent
-    cast-sent-2
-    mul-sent
-    cast-received
-    less-requires
-    cast-received-2
-    mul-received
-    returns)
+    (tie.spec (λ c. search needs) (λ c. search needs) mul-sent (λ c. search needs) (λ c κs. search needs)
+    (λ c. search needs) mul-received returns)

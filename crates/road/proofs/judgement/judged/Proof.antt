@@ -6,33 +6,6 @@ use borrow.Author.Needs.{needs}
 use Rattle.road.proofs.judgement.judged.Statement.{statement}
 use Rattle.road.proofs.judgement.judged.Tie as tie
 
-bad-divisor-requires : tie.Need-bad-divisor-requires
-bad-divisor-requires c κs = search needs
-
-bad-speeds-requires : tie.Need-bad-speeds-requires
-bad-speeds-requires c κs = search needs
-
-bad-densities-requires : tie.Need-bad-densities-requires
-bad-densities-requires c κs = search needs
-
-is-unbalanced-requires : tie.Need-is-unbalanced-requires
-is-unbalanced-requires c κs = search needs
-
-none-requires : tie.Need-none-requires
-none-requires c κs = search needs
-
-or-if-requires : tie.Need-or-if-requires
-or-if-requires c κs = search needs
-
-or-if-requires-2 : tie.Need-or-if-requires-2
-or-if-requires-2 c κs = search needs
-
-or-if-requires-3 : tie.Need-or-if-requires-3
-or-if-requires-3 c κs = search needs
-
-or-if-requires-4 : tie.Need-or-if-requires-4
-or-if-requires-4 c κs = search needs
-
 returns : tie.Need-returns
 unfolding roadRefusal
 returns c =
@@ -58,14 +31,6 @@ returns c =
 pub judged-spec : {M : Type 1} → statement M
 judged-spec =
     tie.close
-    (tie.spec
-    bad-divisor-requires
-    bad-speeds-requires
-    bad-densities-requires
-    is-unbalanced-requires
-    none-requires
-    or-if-requires
-    or-if-requires-2
-    or-if-requires-3
-    or-if-requires-4
-    returns)
+    (tie.spec (λ c κs. search needs) (λ c κs. search needs) (λ c κs. search needs) (λ c κs. search needs)
+    (λ c κs. search needs) (λ c κs. search needs) (λ c κs. search needs) (λ c κs. search needs)
+    (λ c κs. search needs) returns)

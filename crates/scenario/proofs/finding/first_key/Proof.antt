@@ -6,18 +6,6 @@ use Rattle.scenario.specs.Heads.{keyAt}
 use Rattle.scenario.proofs.finding.first_key.Statement.{statement}
 use Rattle.scenario.proofs.finding.first_key.Tie as tie
 
-sub-key-code : tie.Need-sub-key-code
-sub-key-code c = search needs
-
-part-key-code-start : tie.Need-part-key-code-start
-part-key-code-start c = search needs
-
-part-key-code-end : tie.Need-part-key-code-end
-part-key-code-end c = search needs
-
-key-code-requires : tie.Need-key-code-requires
-key-code-requires c κs = search needs
-
 returns : tie.Need-returns
 unfolding keyAt
 returns c = let a = c .before .before .args in rw (eq-eqb (a .start) (a .end) (c .if1 .taken)) refl
@@ -32,10 +20,5 @@ returns-2 c =
 pub first-key-spec : {M : Type 1} → statement M
 first-key-spec =
     tie.close
-    (tie.spec
-    sub-key-code
-    part-key-code-start
-    part-key-code-end
-    key-code-requires
-    returns
+    (tie.spec (λ c. search needs) (λ c. search needs) (λ c. search needs) (λ c κs. search needs) returns
     returns-2)

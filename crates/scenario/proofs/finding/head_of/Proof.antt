@@ -6,17 +6,11 @@ use Rattle.scenario.proofs.Headed.{stop-inside, word-within, head-is}
 use Rattle.scenario.proofs.finding.head_of.Statement.{statement}
 use Rattle.scenario.proofs.finding.head_of.Tie as tie
 
-piece-end-requires : tie.Need-piece-end-requires
-piece-end-requires c κs = search needs
-
 slice-aggregate-first-word : tie.Need-slice-aggregate-first-word
 slice-aggregate-first-word c =
     let p = c .before in
     let line = p .before .before .args .line .now in
     sym (length-take-le (p .piece-end .result) line (stop-inside line (p .piece-end .result) (p .piece-end .ensures)))
-
-first-word-requires : tie.Need-first-word-requires
-first-word-requires c κs = search needs
 
 first-key-requires : tie.Need-first-key-requires
 first-key-requires c κs =
@@ -33,9 +27,5 @@ returns c =
 pub head-of-spec : {M : Type 1} → statement M
 head-of-spec =
     tie.close
-    (tie.spec
-    piece-end-requires
-    slice-aggregate-first-word
-    first-word-requires
-    first-key-requires
+    (tie.spec (λ c κs. search needs) slice-aggregate-first-word (λ c κs. search needs) first-key-requires
     returns)

@@ -24,9 +24,6 @@ within c =
     let l = c .before .before in
     inside newline (l .before .before .args .text .now) (l .loop .at) (c .piece-end .result) (c .before .loop-test .taken) (c .piece-end .ensures)
 
-piece-end-requires : tie.Need-piece-end-requires Inv-loop μ-loop
-piece-end-requires c κs = search needs
-
 sub-head-of : tie.Need-sub-head-of Inv-loop μ-loop
 sub-head-of c = within c .0
 
@@ -41,9 +38,6 @@ loop-holds c = let a = c .before .args in line-begins (a .text .now) (a .key)
 
 add-line : tie.Need-add-line Inv-loop μ-loop
 add-line c = let few = c .before .before .loop .inv .few in let w = within c in search needs
-
-head-of-requires : tie.Need-head-of-requires Inv-loop μ-loop
-head-of-requires c κs = search needs
 
 returns : tie.Need-returns Inv-loop μ-loop
 returns c =
@@ -83,18 +77,5 @@ returns-2 c =
 pub line-of-spec : {M : Type 1} → statement M
 line-of-spec =
     tie.close
-    (tie.spec
-    Inv-loop
-    μ-loop
-    loop-holds
-    piece-end-requires
-    add-line
-    sub-head-of
-    part-head-of-start
-    part-head-of-end
-    head-of-requires
-    returns
-    add-at
-    loop-less
-    loop-again
-    returns-2)
+    (tie.spec Inv-loop μ-loop loop-holds (λ c κs. search needs) add-line sub-head-of part-head-of-start
+    part-head-of-end (λ c κs. search needs) returns add-at loop-less loop-again returns-2)

@@ -4,15 +4,6 @@ use borrow.Author.Needs.{needs}
 use Rattle.scenario.proofs.items.item_of.Statement.{statement}
 use Rattle.scenario.proofs.items.item_of.Tie as tie
 
-is-list-requires : tie.Need-is-list-requires
-is-list-requires c κs = search needs
-
-run-requires : tie.Need-run-requires
-run-requires c κs = search needs
-
-single-requires : tie.Need-single-requires
-single-requires c κs = search needs
-
 returns : tie.Need-returns
 returns c = simp (sym (c .before .before .is-list .ensures) ∙ c .before .if1 .taken) (c .run .ensures)
 
@@ -20,4 +11,6 @@ returns-2 : tie.Need-returns-2
 returns-2 c = simp (sym (c .before .before .is-list .ensures) ∙ c .before .if1 .left) (c .single .ensures)
 
 pub item-of-spec : {M : Type 1} → statement M
-item-of-spec = tie.close (tie.spec is-list-requires run-requires single-requires returns returns-2)
+item-of-spec =
+    tie.close
+    (tie.spec (λ c κs. search needs) (λ c κs. search needs) (λ c κs. search needs) returns returns-2)

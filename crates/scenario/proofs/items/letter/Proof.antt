@@ -7,14 +7,8 @@ use Rattle.scenario.proofs.items.letter.Tie as tie
 returns : tie.Need-returns
 returns c = simp (ne-eqb _ 1 (c .if1 .taken))
 
-shared-slice-read-b : tie.Need-shared-slice-read-b
-shared-slice-read-b c = search needs
-
-code-requires : tie.Need-code-requires
-code-requires c κs = search needs
-
 returns-2 : tie.Need-returns-2
 returns-2 c = simp (eq-eqb _ 1 (c .before .before .if1 .left)) (c .code .ensures)
 
 pub letter-spec : {M : Type 1} → statement M
-letter-spec = tie.close (tie.spec returns shared-slice-read-b code-requires returns-2)
+letter-spec = tie.close (tie.spec returns (λ c. search needs) (λ c κs. search needs) returns-2)

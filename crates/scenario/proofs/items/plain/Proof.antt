@@ -8,15 +8,6 @@ use borrow.Author.Needs.{needs}
 use Rattle.scenario.proofs.items.plain.Statement.{statement}
 use Rattle.scenario.proofs.items.plain.Tie as tie
 
-most-of-requires : tie.Need-most-of-requires
-most-of-requires c κs = search needs
-
-number-of-requires : tie.Need-number-of-requires
-number-of-requires c κs = search needs
-
-letter-requires : tie.Need-letter-requires
-letter-requires c κs = search needs
-
 -- the number is that of the key's most
 number : (c : tie.After-letter) → let s = c .before .before .before .before in
     c .before .number-of .result ≡ numberOf (mostOf (s .args .key)) (s .args .word .now)
@@ -46,4 +37,7 @@ returns-3 c =
     no-letter (s .args .key) (s .args .word .now) _ _ (number l) (l .letter .ensures) (k .if1 .left) (c .if2 .left)
 
 pub plain-spec : {M : Type 1} → statement M
-plain-spec = tie.close (tie.spec most-of-requires number-of-requires letter-requires returns returns-2 returns-3)
+plain-spec =
+    tie.close
+    (tie.spec (λ c κs. search needs) (λ c κs. search needs) (λ c κs. search needs) returns returns-2
+    returns-3)

@@ -7,37 +7,10 @@ use borrow.Author.Needs.{needs}
 use Rattle.scenario.proofs.items.run.Statement.{statement}
 use Rattle.scenario.proofs.items.run.Tie as tie
 
-piece-end-requires : tie.Need-piece-end-requires
-piece-end-requires c κs = search needs
-
 slice-aggregate-plain : tie.Need-slice-aggregate-plain
 slice-aggregate-plain c =
     let t = c .before in
     sym (length-take-le (t .before .piece-end .result) (t .before .before .before .args .word .now) (omega (arith, t .if1 .taken)))
-
-plain-requires : tie.Need-plain-requires
-plain-requires c κs = search needs
-
-add-number-of : tie.Need-add-number-of
-add-number-of c = search needs
-
-sub-number-of : tie.Need-sub-number-of
-sub-number-of c = search needs
-
-part-number-of-start : tie.Need-part-number-of-start
-part-number-of-start c = search needs
-
-part-number-of-end : tie.Need-part-number-of-end
-part-number-of-end c = search needs
-
-number-of-requires : tie.Need-number-of-requires
-number-of-requires c κs = search needs
-
-taken-requires : tie.Need-taken-requires
-taken-requires c κs = search needs
-
-single-requires : tie.Need-single-requires
-single-requires c κs = search needs
 
 returns : tie.Need-returns
 returns c =
@@ -58,16 +31,6 @@ returns-2 c =
 pub run-spec : {M : Type 1} → statement M
 run-spec =
     tie.close
-    (tie.spec
-    piece-end-requires
-    slice-aggregate-plain
-    plain-requires
-    add-number-of
-    sub-number-of
-    part-number-of-start
-    part-number-of-end
-    number-of-requires
-    taken-requires
-    single-requires
-    returns
-    returns-2)
+    (tie.spec (λ c κs. search needs) slice-aggregate-plain (λ c κs. search needs) (λ c. search needs)
+    (λ c. search needs) (λ c. search needs) (λ c. search needs) (λ c κs. search needs)
+    (λ c κs. search needs) (λ c κs. search needs) returns returns-2)

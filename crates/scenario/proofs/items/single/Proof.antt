@@ -6,14 +6,8 @@ use borrow.Author.Needs.{needs}
 use Rattle.scenario.proofs.items.single.Statement.{statement}
 use Rattle.scenario.proofs.items.single.Tie as tie
 
-plain-requires : tie.Need-plain-requires
-plain-requires c κs = search needs
-
-taken-requires : tie.Need-taken-requires
-taken-requires c κs = search needs
-
 returns : tie.Need-returns
 returns c = c .taken .ensures ∙ ap (λ (p : Number). timesOf p once) (c .before .plain .ensures)
 
 pub single-spec : {M : Type 1} → statement M
-single-spec = tie.close (tie.spec plain-requires taken-requires returns)
+single-spec = tie.close (tie.spec (λ c κs. search needs) (λ c κs. search needs) returns)

@@ -24,9 +24,6 @@ within c =
     let l = c .before .before in
     inside blank (l .before .before .args .part .now) (l .loop .at) (c .piece-end .result) (c .before .loop-test .taken) (c .piece-end .ensures)
 
-piece-end-requires : tie.Need-piece-end-requires Inv-loop μ-loop
-piece-end-requires c κs = search needs
-
 sub-one-word : tie.Need-sub-one-word Inv-loop μ-loop
 sub-one-word c = within c .0
 
@@ -38,9 +35,6 @@ part-one-word-end c = within c .1
 
 loop-holds : tie.Need-loop-holds Inv-loop μ-loop
 loop-holds c = count-begins (c .before .args .part .now)
-
-one-word-requires : tie.Need-one-word-requires Inv-loop μ-loop
-one-word-requires c κs = search needs
 
 add-count : tie.Need-add-count Inv-loop μ-loop
 add-count c =
@@ -76,17 +70,5 @@ returns c =
 pub count-words-spec : {M : Type 1} → statement M
 count-words-spec =
     tie.close
-    (tie.spec
-    Inv-loop
-    μ-loop
-    loop-holds
-    piece-end-requires
-    sub-one-word
-    part-one-word-start
-    part-one-word-end
-    one-word-requires
-    add-count
-    add-at
-    loop-less
-    loop-again
-    returns)
+    (tie.spec Inv-loop μ-loop loop-holds (λ c κs. search needs) sub-one-word part-one-word-start
+    part-one-word-end (λ c κs. search needs) add-count add-at loop-less loop-again returns)

@@ -27,9 +27,6 @@ within c =
     let l = c .before .before in
     inside newline (l .before .before .before .args .text .now) (l .loop .at) (c .piece-end .result) (c .before .loop-test .taken) (c .piece-end .ensures)
 
-piece-end-requires : tie.Need-piece-end-requires Inv-loop μ-loop
-piece-end-requires c κs = search needs
-
 sub-judge-line : tie.Need-sub-judge-line Inv-loop μ-loop
 sub-judge-line c = within c .0
 
@@ -52,9 +49,6 @@ judge-line-requires c κs =
     let few = c .before .before .before .loop .inv .few in
     let w = within (c .before) in
     search needs
-
-outcome-requires : tie.Need-outcome-requires Inv-loop μ-loop
-outcome-requires c κs = search needs
 
 returns-2 : tie.Need-returns-2 Inv-loop μ-loop
 returns-2 c =
@@ -85,9 +79,6 @@ loop-again c =
     judge-turns (l .before .before .before .args .text .now) (l .loop .at) (p .piece-end .result) (p .before .loop-test .taken) (p .piece-end .ensures)
     (l .loop .p) (q .result) (q .ensures) (l .loop .inv) (c .if2 .left)
 
-outcome-requires-2 : tie.Need-outcome-requires-2 Inv-loop μ-loop
-outcome-requires-2 c κs = search needs
-
 returns-3 : tie.Need-returns-3 Inv-loop μ-loop
 returns-3 c =
     let l = c .before .before in
@@ -99,20 +90,6 @@ returns-3 c =
 pub judge-spec : {M : Type 1} → statement M
 judge-spec =
     tie.close
-    (tie.spec
-    Inv-loop
-    μ-loop
-    returns
-    loop-holds
-    piece-end-requires
-    sub-judge-line
-    part-judge-line-start
-    part-judge-line-end
-    judge-line-requires
-    outcome-requires
-    returns-2
-    add-at
-    loop-less
-    loop-again
-    outcome-requires-2
-    returns-3)
+    (tie.spec Inv-loop μ-loop returns loop-holds (λ c κs. search needs) sub-judge-line part-judge-line-start
+    part-judge-line-end judge-line-requires (λ c κs. search needs) returns-2 add-at loop-less loop-again
+    (λ c κs. search needs) returns-3)

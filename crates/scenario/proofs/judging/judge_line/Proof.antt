@@ -9,21 +9,6 @@ use Rattle.scenario.proofs.Judged.{judged-is}
 use Rattle.scenario.proofs.judging.judge_line.Statement.{statement}
 use Rattle.scenario.proofs.judging.judge_line.Tie as tie
 
-wrong-line-requires : tie.Need-wrong-line-requires
-wrong-line-requires c κs = search needs
-
-head-of-requires : tie.Need-head-of-requires
-head-of-requires c κs = search needs
-
-cast-at : tie.Need-cast-at
-cast-at c = search needs
-
-cast-end : tie.Need-cast-end
-cast-end c = search needs
-
-element-copy-out-wrong-after : tie.Need-element-copy-out-wrong-after
-element-copy-out-wrong-after c = search needs
-
 -- the key has a place among those seen
 small : (c : tie.After-head-of) → c .head-of .result .key < keyCount + 2
 small c =
@@ -32,12 +17,6 @@ small c =
 
 element-copy-out-wrong-after-2 : tie.Need-element-copy-out-wrong-after-2
 element-copy-out-wrong-after-2 c = small (c .before)
-
-wrong-after-requires : tie.Need-wrong-after-requires
-wrong-after-requires c κs = search needs
-
-add-number : tie.Need-add-number
-add-number c = search needs
 
 array-write-seen : tie.Need-array-write-seen
 array-write-seen c = small (c .before .before .before .before)
@@ -54,14 +33,6 @@ returns c =
 pub judge-line-spec : {M : Type 1} → statement M
 judge-line-spec =
     tie.close
-    (tie.spec
-    wrong-line-requires
-    head-of-requires
-    cast-at
-    cast-end
-    element-copy-out-wrong-after
-    element-copy-out-wrong-after-2
-    wrong-after-requires
-    add-number
-    array-write-seen
-    returns)
+    (tie.spec (λ c κs. search needs) (λ c κs. search needs) (λ c. search needs) (λ c. search needs)
+    (λ c. search needs) element-copy-out-wrong-after-2 (λ c κs. search needs) (λ c. search needs)
+    array-write-seen returns)

@@ -5,15 +5,6 @@ use borrow.Author.Tests.{eq-eqb, ne-eqb}
 use Rattle.scenario.proofs.judging.outcome.Statement.{statement}
 use Rattle.scenario.proofs.judging.outcome.Tie as tie
 
-cast-end : tie.Need-cast-end
-cast-end c = search needs
-
-element-copy-out-if2 : tie.Need-element-copy-out-if2
-element-copy-out-if2 c = search needs
-
-told-key-requires : tie.Need-told-key-requires
-told-key-requires c κs = search needs
-
 returns : tie.Need-returns
 returns c =
     let t = c .before in
@@ -32,10 +23,4 @@ returns-3 c =
 pub outcome-spec : {M : Type 1} → statement M
 outcome-spec =
     tie.close
-    (tie.spec
-    cast-end
-    told-key-requires
-    element-copy-out-if2
-    returns
-    returns-2
-    returns-3)
+    (tie.spec (λ c. search needs) (λ c κs. search needs) (λ c. search needs) returns returns-2 returns-3)

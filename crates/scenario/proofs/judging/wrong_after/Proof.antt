@@ -6,9 +6,6 @@ use Rattle.scenario.specs.Keys.{noKey}
 use Rattle.scenario.proofs.judging.wrong_after.Statement.{statement}
 use Rattle.scenario.proofs.judging.wrong_after.Tie as tie
 
-is-list-requires : tie.Need-is-list-requires
-is-list-requires c κs = search needs
-
 returns : tie.Need-returns
 returns c = rw (eq-eqb (c .before .args .key) noKey (c .if1 .taken)) refl
 
@@ -56,11 +53,4 @@ returns-6 c =
 pub wrong-after-spec : {M : Type 1} → statement M
 wrong-after-spec =
     tie.close
-    (tie.spec
-    is-list-requires
-    returns
-    returns-2
-    returns-3
-    returns-4
-    returns-5
-    returns-6)
+    (tie.spec (λ c κs. search needs) returns returns-2 returns-3 returns-4 returns-5 returns-6)

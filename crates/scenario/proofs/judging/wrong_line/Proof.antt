@@ -13,9 +13,6 @@ returns : tie.Need-returns
 unfolding wrongLine
 returns c = rw (lt-ltb 4096 (length (c .before .before .args .line .now)) (c .if1 .taken)) refl
 
-head-of-requires : tie.Need-head-of-requires
-head-of-requires c κs = search needs
-
 returns-2 : tie.Need-returns-2
 returns-2 c =
     let h = c .before .before in
@@ -46,9 +43,6 @@ part-wrong-values-start c = within c .0
 part-wrong-values-end : tie.Need-part-wrong-values-end
 part-wrong-values-end c = within c .1
 
-wrong-values-requires : tie.Need-wrong-values-requires
-wrong-values-requires c κs = search needs
-
 returns-4 : tie.Need-returns-4
 returns-4 c =
     let e = c .before .before in
@@ -61,13 +55,5 @@ returns-4 c =
 pub wrong-line-spec : {M : Type 1} → statement M
 wrong-line-spec =
     tie.close
-    (tie.spec
-    returns
-    head-of-requires
-    returns-2
-    returns-3
-    sub-wrong-values
-    part-wrong-values-start
-    part-wrong-values-end
-    wrong-values-requires
-    returns-4)
+    (tie.spec returns (λ c κs. search needs) returns-2 returns-3 sub-wrong-values part-wrong-values-start
+    part-wrong-values-end (λ c κs. search needs) returns-4)

@@ -4,12 +4,6 @@ use borrow.Author.Needs.{needs}
 use Rattle.scenario.proofs.judging.wrong_number.Statement.{statement}
 use Rattle.scenario.proofs.judging.wrong_number.Tie as tie
 
-is-list-requires : tie.Need-is-list-requires
-is-list-requires c κs = search needs
-
-arity-requires : tie.Need-arity-requires
-arity-requires c κs = search needs
-
 returns : tie.Need-returns
 returns c = rw (sym (c .before .is-list .ensures) ∙ c .if1 .taken) refl
 
@@ -19,10 +13,4 @@ returns-2 c =
     rw (sym (e .before .is-list .ensures) ∙ e .if1 .left, c .arity .ensures) refl
 
 pub wrong-number-spec : {M : Type 1} → statement M
-wrong-number-spec =
-    tie.close
-    (tie.spec
-    is-list-requires
-    arity-requires
-    returns
-    returns-2)
+wrong-number-spec = tie.close (tie.spec (λ c κs. search needs) (λ c κs. search needs) returns returns-2)

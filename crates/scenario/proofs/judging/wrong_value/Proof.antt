@@ -25,9 +25,6 @@ within c =
     let l = c .before .before in
     inside blank (l .before .before .args .part .now) (l .loop .at) (c .piece-end .result) (c .before .loop-test .taken) (c .piece-end .ensures)
 
-piece-end-requires : tie.Need-piece-end-requires Inv-loop μ-loop
-piece-end-requires c κs = search needs
-
 sub-wrong-word : tie.Need-sub-wrong-word Inv-loop μ-loop
 sub-wrong-word c = within c .0
 
@@ -40,9 +37,6 @@ part-wrong-word-end c = within c .1
 loop-holds : tie.Need-loop-holds Inv-loop μ-loop
 unfolding wordsIn
 loop-holds c = refl
-
-wrong-word-requires : tie.Need-wrong-word-requires Inv-loop μ-loop
-wrong-word-requires c κs = search needs
 
 returns : tie.Need-returns Inv-loop μ-loop
 returns c =
@@ -80,17 +74,5 @@ returns-2 c =
 pub wrong-value-spec : {M : Type 1} → statement M
 wrong-value-spec =
     tie.close
-    (tie.spec
-    Inv-loop
-    μ-loop
-    loop-holds
-    piece-end-requires
-    sub-wrong-word
-    part-wrong-word-start
-    part-wrong-word-end
-    wrong-word-requires
-    returns
-    add-at
-    loop-less
-    loop-again
-    returns-2)
+    (tie.spec Inv-loop μ-loop loop-holds (λ c κs. search needs) sub-wrong-word part-wrong-word-start
+    part-wrong-word-end (λ c κs. search needs) returns add-at loop-less loop-again returns-2)

@@ -10,15 +10,6 @@ use Rattle.scenario.proofs.Judged.{values-wrong}
 use Rattle.scenario.proofs.judging.wrong_values.Statement.{statement}
 use Rattle.scenario.proofs.judging.wrong_values.Tie as tie
 
-count-words-requires : tie.Need-count-words-requires
-count-words-requires c κs = search needs
-
-wrong-number-requires : tie.Need-wrong-number-requires
-wrong-number-requires c κs = search needs
-
-wrong-value-requires : tie.Need-wrong-value-requires
-wrong-value-requires c κs = search needs
-
 returns : tie.Need-returns
 returns c =
     let n = c .before in
@@ -38,4 +29,6 @@ returns-2 c =
     ∙ values-wrong (a .key) ws (n .before .count-words .result) (n .before .count-words .ensures) (n .wrong-number .result) (n .wrong-number .ensures)
 
 pub wrong-values-spec : {M : Type 1} → statement M
-wrong-values-spec = tie.close (tie.spec count-words-requires wrong-number-requires wrong-value-requires returns returns-2)
+wrong-values-spec =
+    tie.close
+    (tie.spec (λ c κs. search needs) (λ c κs. search needs) (λ c κs. search needs) returns returns-2)

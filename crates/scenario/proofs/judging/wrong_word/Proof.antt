@@ -7,9 +7,6 @@ use Rattle.scenario.proofs.judging.wrong_word.Tie as tie
 returns : tie.Need-returns
 returns c = let a = c .before .before .args in none-wrong (a .key) (a .word .now) (c .if1 .taken)
 
-item-of-requires : tie.Need-item-of-requires
-item-of-requires c κs = search needs
-
 returns-2 : tie.Need-returns-2
 returns-2 c =
     let n = c .before in
@@ -17,9 +14,4 @@ returns-2 c =
     word-wrong (a .key) (a .word .now) (c .item-of .result) (c .item-of .ensures) (n .if1 .left)
 
 pub wrong-word-spec : {M : Type 1} → statement M
-wrong-word-spec =
-    tie.close
-    (tie.spec
-    returns
-    item-of-requires
-    returns-2)
+wrong-word-spec = tie.close (tie.spec returns (λ c κs. search needs) returns-2)

@@ -6,12 +6,6 @@ use borrow.Author.Needs.{needs}
 use Rattle.scenario.proofs.keys.arity.Statement.{statement}
 use Rattle.scenario.proofs.keys.arity.Tie as tie
 
-mul-result : tie.Need-mul-result
-mul-result c = search needs
-
-array-read-result : tie.Need-array-read-result
-array-read-result c = search needs
-
 returns : tie.Need-returns
 unfolding arities
 returns c = refl
@@ -21,4 +15,4 @@ unfolding arities
 returns-2 c = sym (List·getD-eq-default arities 0 (c .if1 .left))
 
 pub arity-spec : {M : Type 1} → statement M
-arity-spec = tie.close (tie.spec mul-result array-read-result returns returns-2)
+arity-spec = tie.close (tie.spec (λ c. search needs) (λ c. search needs) returns returns-2)

@@ -19,18 +19,6 @@ abbrev μ-loop : tie.MeasureT-loop
 loop-holds : tie.Need-loop-holds Inv-loop μ-loop
 loop-holds c = let s = c .before in begins (s .args .word .now) (getD names (s .args .k) [])
 
-letter-at-requires : tie.Need-letter-at-requires Inv-loop μ-loop
-letter-at-requires c κs = search needs
-
-mul-if1 : tie.Need-mul-if1 Inv-loop μ-loop
-mul-if1 c = search needs
-
-index-1-if1 : tie.Need-index-1-if1 Inv-loop μ-loop
-index-1-if1 c = search needs
-
-index-2-if1 : tie.Need-index-2-if1 Inv-loop μ-loop
-index-2-if1 c = search needs
-
 returns : tie.Need-returns Inv-loop μ-loop
 unfolding names
 returns c =
@@ -40,12 +28,6 @@ returns c =
     differs (s .args .word .now) (getD names (s .args .k) []) (l .loop .i) (l .loop .inv)
     (omega (arith, name-length (s .args .k) (s .pre), t .before .loop-test .taken))
     (λ e. c .if1 .taken (t .letter-at .ensures ∙ e))
-
-add-i : tie.Need-add-i Inv-loop μ-loop
-add-i c = search needs
-
-loop-less : tie.Need-loop-less Inv-loop μ-loop
-loop-less c = search needs
 
 loop-again : tie.Need-loop-again Inv-loop μ-loop
 unfolding names
@@ -68,16 +50,5 @@ returns-2 c =
 pub is-name-spec : {M : Type 1} → statement M
 is-name-spec =
     tie.close
-    (tie.spec
-    Inv-loop
-    μ-loop
-    loop-holds
-    letter-at-requires
-    mul-if1
-    index-1-if1
-    index-2-if1
-    returns
-    add-i
-    loop-less
-    loop-again
-    returns-2)
+    (tie.spec Inv-loop μ-loop loop-holds (λ c κs. search needs) (λ c. search needs) (λ c. search needs)
+    (λ c. search needs) returns (λ c. search needs) (λ c. search needs) loop-again returns-2)

@@ -6,9 +6,6 @@ use borrow.Author.Needs.{needs}
 use Rattle.scenario.proofs.keys.letter_at.Statement.{statement}
 use Rattle.scenario.proofs.keys.letter_at.Tie as tie
 
-shared-slice-read-result : tie.Need-shared-slice-read-result
-shared-slice-read-result c = search needs
-
 returns : tie.Need-returns
 returns c = let s = c .before .before in letter-inside (s .args .word .now) (s .args .i) (c .before .if1 .taken)
 
@@ -16,4 +13,4 @@ returns-2 : tie.Need-returns-2
 returns-2 c = sym (List·getD-eq-default (c .before .args .word .now) 32 (c .if1 .left))
 
 pub letter-at-spec : {M : Type 1} → statement M
-letter-at-spec = tie.close (tie.spec shared-slice-read-result returns returns-2)
+letter-at-spec = tie.close (tie.spec (λ c. search needs) returns returns-2)

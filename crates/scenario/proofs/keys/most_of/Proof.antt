@@ -4,9 +4,6 @@ use borrow.Author.Needs.{needs}
 use Rattle.scenario.proofs.keys.most_of.Statement.{statement}
 use Rattle.scenario.proofs.keys.most_of.Tie as tie
 
-either-requires : tie.Need-either-requires
-either-requires c κs = search needs
-
 returns : tie.Need-returns
 returns c = simp (← c .before .either .ensures, c .if1 .taken)
 
@@ -17,4 +14,4 @@ returns-3 : tie.Need-returns-3
 returns-3 c = simp (← c .before .before .either .ensures, c .before .if1 .left, ne-eqb _ 9 (c .if2 .left))
 
 pub most-of-spec : {M : Type 1} → statement M
-most-of-spec = tie.close (tie.spec either-requires returns returns-2 returns-3)
+most-of-spec = tie.close (tie.spec (λ c κs. search needs) returns returns-2 returns-3)

@@ -7,9 +7,6 @@ use Rattle.scenario.proofs.Headed.{head-inside, gives-nothing, gives-va
 use Rattle.scenario.proofs.listing.store_line.Statement.{statement}
 use Rattle.scenario.proofs.listing.store_line.Tie as tie
 
-head-of-requires : tie.Need-head-of-requires
-head-of-requires c κs = search needs
-
 returns : tie.Need-returns
 returns c =
     let h = c .before .before in
@@ -35,12 +32,6 @@ part-store-words-start c = within c .0
 part-store-words-end : tie.Need-part-store-words-end
 part-store-words-end c = within c .1
 
-store-words-requires : tie.Need-store-words-requires
-store-words-requires c κs = search needs
-
-same-length : tie.Need-same-length
-same-length c = search needs
-
 returns-2 : tie.Need-returns-2
 returns-2 c =
     let o = c .before .before in
@@ -52,12 +43,5 @@ returns-2 c =
 pub store-line-spec : {M : Type 1} → statement M
 store-line-spec =
     tie.close
-    (tie.spec
-    head-of-requires
-    returns
-    sub-store-words
-    part-store-words-start
-    part-store-words-end
-    store-words-requires
-    same-length
-    returns-2)
+    (tie.spec (λ c κs. search needs) returns sub-store-words part-store-words-start part-store-words-end
+    (λ c κs. search needs) (λ c. search needs) returns-2)

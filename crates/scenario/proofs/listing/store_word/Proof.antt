@@ -11,15 +11,6 @@ returns c =
     let a = s .args in
     rw (no-values (a .key) (a .word .now) (c .if1 .taken)) (stored-nothing (a .out .now) (a .filled) (s .pre))
 
-item-of-requires : tie.Need-item-of-requires
-item-of-requires c κs = search needs
-
-append-requires : tie.Need-append-requires
-append-requires c κs = search needs
-
-same-length : tie.Need-same-length
-same-length c = search needs
-
 returns-2 : tie.Need-returns-2
 returns-2 c =
     let o = c .before .before in
@@ -31,9 +22,4 @@ returns-2 c =
 pub store-word-spec : {M : Type 1} → statement M
 store-word-spec =
     tie.close
-    (tie.spec
-    returns
-    item-of-requires
-    append-requires
-    same-length
-    returns-2)
+    (tie.spec returns (λ c κs. search needs) (λ c κs. search needs) (λ c. search needs) returns-2)

@@ -27,9 +27,6 @@ within c =
     let l = c .before .before in
     inside blank (l .before .before .before .args .part .now) (l .loop .at) (c .piece-end .result) (c .before .loop-test .taken) (c .piece-end .ensures)
 
-piece-end-requires : tie.Need-piece-end-requires Inv-loop μ-loop
-piece-end-requires c κs = search needs
-
 sub-store-word : tie.Need-sub-store-word Inv-loop μ-loop
 sub-store-word c = within c .0
 
@@ -78,17 +75,5 @@ returns c =
 pub store-words-spec : {M : Type 1} → statement M
 store-words-spec =
     tie.close
-    (tie.spec
-    Inv-loop
-    μ-loop
-    loop-holds
-    piece-end-requires
-    sub-store-word
-    part-store-word-start
-    part-store-word-end
-    store-word-requires
-    add-at
-    loop-less
-    loop-again
-    same-length
-    returns)
+    (tie.spec Inv-loop μ-loop loop-holds (λ c κs. search needs) sub-store-word part-store-word-start
+    part-store-word-end store-word-requires add-at loop-less loop-again same-length returns)

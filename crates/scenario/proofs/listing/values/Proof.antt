@@ -28,9 +28,6 @@ within c =
     let l = c .before .before in
     inside newline (l .before .before .before .args .text .now) (l .loop .at) (c .piece-end .result) (c .before .loop-test .taken) (c .piece-end .ensures)
 
-piece-end-requires : tie.Need-piece-end-requires Inv-loop μ-loop
-piece-end-requires c κs = search needs
-
 sub-store-line : tie.Need-sub-store-line Inv-loop μ-loop
 sub-store-line c = within c .0
 
@@ -78,17 +75,5 @@ returns c =
 pub values-spec : {M : Type 1} → statement M
 values-spec =
     tie.close
-    (tie.spec
-    Inv-loop
-    μ-loop
-    loop-holds
-    piece-end-requires
-    sub-store-line
-    part-store-line-start
-    part-store-line-end
-    store-line-requires
-    add-at
-    loop-less
-    loop-again
-    same-length
-    returns)
+    (tie.spec Inv-loop μ-loop loop-holds (λ c κs. search needs) sub-store-line part-store-line-start
+    part-store-line-end store-line-requires add-at loop-less loop-again same-length returns)

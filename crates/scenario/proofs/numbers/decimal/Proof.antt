@@ -18,9 +18,6 @@ abbrev μ-loop : tie.MeasureT-loop
 loop-holds : tie.Need-loop-holds Inv-loop μ-loop
 loop-holds c = let s = c .before in begins (s .args .word .now) (s .args .most) (s .pre)
 
-shared-slice-read-digit : tie.Need-shared-slice-read-digit Inv-loop μ-loop
-shared-slice-read-digit c = search needs
-
 sub-digit : tie.Need-sub-digit Inv-loop μ-loop
 sub-digit c =
     let l = c .before .before in
@@ -29,9 +26,6 @@ sub-digit c =
 
 cast-digit : tie.Need-cast-digit Inv-loop μ-loop
 cast-digit c = omega (arith, c .shared-slice-known2 .given (c .before .before .loop .i))
-
-is-past-requires : tie.Need-is-past-requires Inv-loop μ-loop
-is-past-requires c κs = search needs
 
 returns : tie.Need-returns Inv-loop μ-loop
 returns c =
@@ -53,12 +47,6 @@ mul-value c = omega (arith, within c)
 add-value : tie.Need-add-value Inv-loop μ-loop
 add-value c = omega (arith, within c)
 
-add-i : tie.Need-add-i Inv-loop μ-loop
-add-i c = search needs
-
-loop-less : tie.Need-loop-less Inv-loop μ-loop
-loop-less c = search needs
-
 loop-again : tie.Need-loop-again Inv-loop μ-loop
 loop-again c =
     let o = c .before in
@@ -77,18 +65,5 @@ returns-2 c =
 pub decimal-spec : {M : Type 1} → statement M
 decimal-spec =
     tie.close
-    (tie.spec
-    Inv-loop
-    μ-loop
-    loop-holds
-    shared-slice-read-digit
-    sub-digit
-    cast-digit
-    is-past-requires
-    returns
-    mul-value
-    add-value
-    add-i
-    loop-less
-    loop-again
-    returns-2)
+    (tie.spec Inv-loop μ-loop loop-holds (λ c. search needs) sub-digit cast-digit (λ c κs. search needs)
+    returns mul-value add-value (λ c. search needs) (λ c. search needs) loop-again returns-2)

@@ -5,9 +5,6 @@ use borrow.Author.Needs.{needs}
 use Rattle.scenario.proofs.numbers.is_number.Statement.{statement}
 use Rattle.scenario.proofs.numbers.is_number.Tie as tie
 
-all-digits-requires : tie.Need-all-digits-requires
-all-digits-requires c κs = search needs
-
 returns : tie.Need-returns
 returns c = empty-no-number (c .before .before .args .word .now) (c .if1 .taken)
 
@@ -17,4 +14,4 @@ returns-2 c =
     c .all-digits .ensures ∙ number-filled (t .before .before .args .word .now) (t .if1 .left)
 
 pub is-number-spec : {M : Type 1} → statement M
-is-number-spec = tie.close (tie.spec all-digits-requires returns returns-2)
+is-number-spec = tie.close (tie.spec (λ c κs. search needs) returns returns-2)

@@ -4,12 +4,6 @@ use borrow.Author.Needs.{needs}
 use Rattle.scenario.proofs.numbers.is_past.Statement.{statement}
 use Rattle.scenario.proofs.numbers.is_past.Tie as tie
 
-mul-result : tie.Need-mul-result
-mul-result c = search needs
-
-sub-result : tie.Need-sub-result
-sub-result c = search needs
-
 returns : tie.Need-returns
 returns c = let s = c .before in past-quotient (s .args .most) (s .args .value) (s .args .digit) (c .if1 .taken)
 
@@ -19,4 +13,4 @@ returns-2 c =
     past-room (s .args .most) (s .args .value) (s .args .digit) (room-left (s .args .most) (s .args .value) (c .if1 .left))
 
 pub is-past-spec : {M : Type 1} → statement M
-is-past-spec = tie.close (tie.spec mul-result sub-result returns returns-2)
+is-past-spec = tie.close (tie.spec (λ c. search needs) (λ c. search needs) returns returns-2)

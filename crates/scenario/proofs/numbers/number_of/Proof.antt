@@ -6,9 +6,6 @@ use borrow.Author.Needs.{needs}
 use Rattle.scenario.proofs.numbers.number_of.Statement.{statement}
 use Rattle.scenario.proofs.numbers.number_of.Tie as tie
 
-is-number-requires : tie.Need-is-number-requires
-is-number-requires c κs = search needs
-
 decimal-requires : tie.Need-decimal-requires
 decimal-requires c κs =
     let n = c .before in
@@ -23,4 +20,4 @@ unfolding numberOf
 returns-2 c = simp (sym (c .before .is-number .ensures) ∙ c .if1 .left)
 
 pub number-of-spec : {M : Type 1} → statement M
-number-of-spec = tie.close (tie.spec is-number-requires decimal-requires returns returns-2)
+number-of-spec = tie.close (tie.spec (λ c κs. search needs) decimal-requires returns returns-2)

@@ -4,9 +4,6 @@ use borrow.Author.Needs.{needs}
 use Rattle.scenario.proofs.pieces.cuts.Statement.{statement}
 use Rattle.scenario.proofs.pieces.cuts.Tie as tie
 
-is-blank-requires : tie.Need-is-blank-requires
-is-blank-requires c κs = search needs
-
 returns : tie.Need-returns
 returns c = simp (eq-eqb _ _ (c .before .if1 .taken)) (c .is-blank .ensures)
 
@@ -14,4 +11,4 @@ returns-2 : tie.Need-returns-2
 returns-2 c = simp (ne-eqb _ _ (c .if1 .left))
 
 pub cuts-spec : {M : Type 1} → statement M
-cuts-spec = tie.close (tie.spec is-blank-requires returns returns-2)
+cuts-spec = tie.close (tie.spec (λ c κs. search needs) returns returns-2)

@@ -5,9 +5,6 @@ use borrow.Author.Needs.{needs}
 use Rattle.scenario.proofs.pieces.first_word.Statement.{statement}
 use Rattle.scenario.proofs.pieces.first_word.Tie as tie
 
-leading-requires : tie.Need-leading-requires
-leading-requires c κs = search needs
-
 piece-end-requires : tie.Need-piece-end-requires
 piece-end-requires c κs = omega (arith, leading-bound (c .before .before .args .text .now), c .leading .ensures)
 
@@ -17,4 +14,4 @@ returns c =
     word-at (l .before .before .args .text .now) (l .leading .result) (c .piece-end .result) (l .leading .ensures) (c .piece-end .ensures)
 
 pub first-word-spec : {M : Type 1} → statement M
-first-word-spec = tie.close (tie.spec leading-requires piece-end-requires returns)
+first-word-spec = tie.close (tie.spec (λ c κs. search needs) piece-end-requires returns)

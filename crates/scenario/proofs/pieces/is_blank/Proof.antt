@@ -7,14 +7,8 @@ use borrow.Author.Needs.{needs}
 use Rattle.scenario.proofs.pieces.is_blank.Statement.{statement}
 use Rattle.scenario.proofs.pieces.is_blank.Tie as tie
 
-either-requires : tie.Need-either-requires
-either-requires c κs = search needs
-
-either-requires-2 : tie.Need-either-requires-2
-either-requires-2 c κs = search needs
-
 returns : tie.Need-returns
 returns c = c .either2 .ensures ∙ ap (or (eqb (c .before .before .args .b) blank)) (c .before .either .ensures)
 
 pub is-blank-spec : {M : Type 1} → statement M
-is-blank-spec = tie.close (tie.spec either-requires either-requires-2 returns)
+is-blank-spec = tie.close (tie.spec (λ c κs. search needs) (λ c κs. search needs) returns)

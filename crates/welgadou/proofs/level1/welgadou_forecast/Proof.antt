@@ -5,30 +5,12 @@ use borrow.Author.Needs.{needs}
 use Rattle.welgadou.proofs.level1.welgadou_forecast.Statement.{statement}
 use Rattle.welgadou.proofs.level1.welgadou_forecast.Tie as tie
 
-road-of-requires : tie.Need-road-of-requires
-road-of-requires c κs = search needs
-
-forecast-requires : tie.Need-forecast-requires
-forecast-requires c κs = search needs
-
-enum-known-t : tie.Need-enum-known-t
-enum-known-t c = search needs
-
-enum-known-f : tie.Need-enum-known-f
-enum-known-f c = search needs
-
-same-length : tie.Need-same-length
-same-length c = search needs
-
 returns : tie.Need-returns
 returns c =
     let called = c .before .before .before .before .before in
     let given = called .before .before .before .before .before .before .before .args in
     forecast-done {r = roadOf (given .divisor) (given .free) (given .wave) (given .jam) (given .critical)}
     (called .before .before .road-of .ensures) (called .forecast .ensures) (c .before .t .given .1)
-
-same-length-2 : tie.Need-same-length-2
-same-length-2 c = search needs
 
 returns-2 : tie.Need-returns-2
 returns-2 c =
@@ -40,12 +22,5 @@ returns-2 c =
 pub welgadou-forecast-spec : {M : Type 1} → statement M
 welgadou-forecast-spec =
     tie.close
-    (tie.spec
-    road-of-requires
-    forecast-requires
-    enum-known-t
-    enum-known-f
-    same-length
-    returns
-    same-length-2
-    returns-2)
+    (tie.spec (λ c κs. search needs) (λ c κs. search needs) (λ c. search needs) (λ c. search needs)
+    (λ c. search needs) returns (λ c. search needs) returns-2)

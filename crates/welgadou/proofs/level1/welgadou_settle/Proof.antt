@@ -5,33 +5,12 @@ use borrow.Author.Needs.{needs}
 use Rattle.welgadou.proofs.level1.welgadou_settle.Statement.{statement}
 use Rattle.welgadou.proofs.level1.welgadou_settle.Tie as tie
 
-road-of-requires : tie.Need-road-of-requires
-road-of-requires c κs = search needs
-
-settle-requires : tie.Need-settle-requires
-settle-requires c κs = search needs
-
-enum-known-s : tie.Need-enum-known-s
-enum-known-s c = search needs
-
-flag-requires : tie.Need-flag-requires
-flag-requires c κs = search needs
-
-enum-known-f : tie.Need-enum-known-f
-enum-known-f c = search needs
-
-same-length : tie.Need-same-length
-same-length c = search needs
-
 returns : tie.Need-returns
 returns c =
     let called = c .before .before .before .before .before .before in
     let given = called .before .before .before .before .before .args in
     settle-done {r = roadOf (given .divisor) (given .free) (given .wave) (given .jam) (given .critical)}
     (called .before .before .road-of .ensures) (called .settle .ensures) (c .before .before .s .given .1) (c .flag .ensures)
-
-same-length-2 : tie.Need-same-length-2
-same-length-2 c = search needs
 
 returns-2 : tie.Need-returns-2
 returns-2 c =
@@ -43,13 +22,5 @@ returns-2 c =
 pub welgadou-settle-spec : {M : Type 1} → statement M
 welgadou-settle-spec =
     tie.close
-    (tie.spec
-    road-of-requires
-    settle-requires
-    enum-known-s
-    flag-requires
-    enum-known-f
-    same-length
-    returns
-    same-length-2
-    returns-2)
+    (tie.spec (λ c κs. search needs) (λ c κs. search needs) (λ c. search needs) (λ c κs. search needs)
+    (λ c. search needs) (λ c. search needs) returns (λ c. search needs) returns-2)

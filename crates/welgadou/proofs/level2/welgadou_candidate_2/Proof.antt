@@ -5,21 +5,6 @@ use borrow.Author.Needs.{needs}
 use Rattle.welgadou.proofs.level2.welgadou_candidate_2.Statement.{statement}
 use Rattle.welgadou.proofs.level2.welgadou_candidate_2.Tie as tie
 
-road-of-requires : tie.Need-road-of-requires
-road-of-requires c κs = search needs
-
-mode-byte-requires : tie.Need-mode-byte-requires
-mode-byte-requires c κs = search needs
-
-candidate-requires : tie.Need-candidate-requires
-candidate-requires c κs = search needs
-
-enum-known-p : tie.Need-enum-known-p
-enum-known-p c = search needs
-
-enum-known-f : tie.Need-enum-known-f
-enum-known-f c = search needs
-
 returns : tie.Need-returns
 returns c =
     let called = c .before .before .before in
@@ -39,4 +24,5 @@ returns-2 c =
 pub welgadou-candidate-2-spec : {M : Type 1} → statement M
 welgadou-candidate-2-spec =
     tie.close
-    (tie.spec road-of-requires mode-byte-requires candidate-requires enum-known-p enum-known-f returns returns-2)
+    (tie.spec (λ c κs. search needs) (λ c κs. search needs) (λ c κs. search needs) (λ c. search needs)
+    (λ c. search needs) returns returns-2)

@@ -5,21 +5,6 @@ use borrow.Author.Needs.{needs}
 use Rattle.welgadou.proofs.level2.welgadou_fit.Statement.{statement}
 use Rattle.welgadou.proofs.level2.welgadou_fit.Tie as tie
 
-road-of-requires : tie.Need-road-of-requires
-road-of-requires c κs = search needs
-
-fit-requires : tie.Need-fit-requires
-fit-requires c κs = search needs
-
-enum-known-r : tie.Need-enum-known-r
-enum-known-r c = search needs
-
-flag-requires : tie.Need-flag-requires
-flag-requires c κs = search needs
-
-enum-known-f : tie.Need-enum-known-f
-enum-known-f c = search needs
-
 returns : tie.Need-returns
 returns c =
     let called = c .before .before .before .before in
@@ -37,11 +22,5 @@ returns-2 c =
 pub welgadou-fit-spec : {M : Type 1} → statement M
 welgadou-fit-spec =
     tie.close
-    (tie.spec
-    road-of-requires
-    fit-requires
-    enum-known-r
-    flag-requires
-    enum-known-f
-    returns
-    returns-2)
+    (tie.spec (λ c κs. search needs) (λ c κs. search needs) (λ c. search needs) (λ c κs. search needs)
+    (λ c. search needs) returns returns-2)

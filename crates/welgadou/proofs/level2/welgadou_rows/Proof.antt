@@ -5,30 +5,12 @@ use borrow.Author.Needs.{needs}
 use Rattle.welgadou.proofs.level2.welgadou_rows.Statement.{statement}
 use Rattle.welgadou.proofs.level2.welgadou_rows.Tie as tie
 
-road-of-requires : tie.Need-road-of-requires
-road-of-requires c κs = search needs
-
-predict-requires : tie.Need-predict-requires
-predict-requires c κs = search needs
-
-enum-told : tie.Need-enum-told
-enum-told c = search needs
-
-enum-known-f : tie.Need-enum-known-f
-enum-known-f c = search needs
-
-same-length : tie.Need-same-length
-same-length c = search needs
-
 returns : tie.Need-returns
 returns c =
     let called = c .before .before .before in
     let given = called .before .before .before .before .before .args in
     rows-answered {r = roadOf (given .divisor) (given .free) (given .wave) (given .jam) (given .critical)}
     (called .before .before .road-of .ensures) (called .predict .ensures) _ (c .enum-told .given .1)
-
-same-length-2 : tie.Need-same-length-2
-same-length-2 c = search needs
 
 returns-2 : tie.Need-returns-2
 returns-2 c =
@@ -40,12 +22,5 @@ returns-2 c =
 pub welgadou-rows-spec : {M : Type 1} → statement M
 welgadou-rows-spec =
     tie.close
-    (tie.spec
-    road-of-requires
-    predict-requires
-    enum-told
-    enum-known-f
-    same-length
-    returns
-    same-length-2
-    returns-2)
+    (tie.spec (λ c κs. search needs) (λ c κs. search needs) (λ c. search needs) (λ c. search needs)
+    (λ c. search needs) returns (λ c. search needs) returns-2)

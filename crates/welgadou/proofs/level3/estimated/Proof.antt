@@ -11,4 +11,6 @@ returns-2 : tie.Need-returns-2
 returns-2 c = station-refused (c .before .before .before .station .ensures) (c .before .f .given .1)
 
 pub estimated-spec : {M : Type 1} → statement M
-estimated-spec = tie.close (tie.spec (λ c κs. search needs) (λ c. search needs) (λ c. search needs) returns returns-2)
+estimated-spec =
+    tie.close
+    (tie.spec (λ c κs. search needs) (λ c. search needs) (λ c. search needs) returns returns-2)

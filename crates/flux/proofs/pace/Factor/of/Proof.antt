@@ -5,18 +5,6 @@ use borrow.Author.Needs.{needs}
 use Rattle.flux.proofs.pace.Factor.of.Statement.{statement}
 use Rattle.flux.proofs.pace.Factor.of.Tie as tie
 
-mul-up : tie.Need-mul-up
-mul-up c = search needs
-
-sub-up : tie.Need-sub-up
-sub-up c = search needs
-
-add-up : tie.Need-add-up
-add-up c = search needs
-
-div-up : tie.Need-div-up
-div-up c = search needs
-
 cast-t11 : tie.Need-cast-t11
 cast-t11 c =
     let s = c .before in
@@ -29,4 +17,7 @@ returns-2 : tie.Need-returns-2
 returns-2 c = sym (factor-whole (c .before .args .speed) (c .before .args .divisor) (c .if1 .left))
 
 pub of-spec : {M : Type 1} → statement M
-of-spec = tie.close (tie.spec mul-up sub-up add-up div-up cast-t11 returns returns-2)
+of-spec =
+    tie.close
+    (tie.spec (λ c. search needs) (λ c. search needs) (λ c. search needs) (λ c. search needs) cast-t11
+    returns returns-2)

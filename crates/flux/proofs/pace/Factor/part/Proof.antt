@@ -9,15 +9,6 @@ use borrow.Author.Needs.{needs}
 use Rattle.flux.proofs.pace.Factor.part.Statement.{statement}
 use Rattle.flux.proofs.pace.Factor.part.Tie as tie
 
-add-result : tie.Need-add-result
-add-result c = search needs
-
-cast-result : tie.Need-cast-result
-cast-result c = search needs
-
-cast-result-2 : tie.Need-cast-result-2
-cast-result-2 c = search needs
-
 mul-result : tie.Need-mul-result
 mul-result c = record { fits = below 32 (omega arith) (search needs) }
 
@@ -32,4 +23,5 @@ returns c = refl
 
 pub part-spec : {M : Type 1} → statement M
 part-spec =
-    tie.close (tie.spec add-result cast-result cast-result-2 mul-result cast-result-3 returns)
+    tie.close
+    (tie.spec (λ c. search needs) (λ c. search needs) (λ c. search needs) mul-result cast-result-3 returns)

@@ -13,9 +13,6 @@ part-requires c κs =
     let s = c .before .before in
     (le-trans (s .pre .1 .1 .0) (s .pre .0 .jam-high), send-more (s .args .self) (s .pre .0) (s .pre .1 .0))
 
-sub-part : tie.Need-sub-part
-sub-part c = search needs
-
 part-requires-2 : tie.Need-part-requires-2
 part-requires-2 c κs =
     let s = c .before .before .before .before in
@@ -47,4 +44,4 @@ returns c =
 pub flow-spec : {M : Type 1} → statement M
 flow-spec =
     tie.close
-    (tie.spec part-requires sub-part part-requires-2 least-requires least-requires-2 returns)
+    (tie.spec part-requires (λ c. search needs) part-requires-2 least-requires least-requires-2 returns)

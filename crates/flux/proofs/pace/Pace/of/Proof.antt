@@ -6,19 +6,10 @@ use borrow.Author.Needs.{needs}
 use Rattle.flux.proofs.pace.Pace.of.Statement.{statement}
 use Rattle.flux.proofs.pace.Pace.of.Tie as tie
 
-of-requires : tie.Need-of-requires
-of-requires c κs = search needs
-
-of-requires-2 : tie.Need-of-requires-2
-of-requires-2 c κs = search needs
-
 mul-units : tie.Need-mul-units
 mul-units c =
     let s = c .before .before .before in
     product-fits (s .pre) (s .args .r .free) (s .args .r .critical) (s .pre .free-high) (le-of-lt (s .pre .critical-high))
-
-units-requires : tie.Need-units-requires
-units-requires c κs = search needs
 
 returns : tie.Need-returns
 unfolding paceOf
@@ -30,4 +21,6 @@ returns c = λ i. record {
 }
 
 pub of-spec : {M : Type 1} → statement M
-of-spec = tie.close (tie.spec of-requires of-requires-2 mul-units units-requires returns)
+of-spec =
+    tie.close
+    (tie.spec (λ c κs. search needs) (λ c κs. search needs) mul-units (λ c κs. search needs) returns)

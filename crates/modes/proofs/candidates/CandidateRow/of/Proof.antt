@@ -12,21 +12,6 @@ use borrow.Author.Needs.{needs}
 use Rattle.modes.proofs.candidates.CandidateRow.of.Statement.{statement}
 use Rattle.modes.proofs.candidates.CandidateRow.of.Tie as tie
 
-of-requires : tie.Need-of-requires
-of-requires c κs = search needs
-
-float-of-requires : tie.Need-float-of-requires
-float-of-requires c κs = search needs
-
-float-of-requires-2 : tie.Need-float-of-requires-2
-float-of-requires-2 c κs = search needs
-
-float-of-requires-3 : tie.Need-float-of-requires-3
-float-of-requires-3 c κs = search needs
-
-float-of-requires-4 : tie.Need-float-of-requires-4
-float-of-requires-4 c κs = search needs
-
 returns : tie.Need-returns
 unfolding rowFor wholeRow
 returns c =
@@ -48,10 +33,5 @@ returns c =
 pub of-spec : {M : Type 1} → statement M
 of-spec =
     tie.close
-    (tie.spec
-    of-requires
-    float-of-requires
-    float-of-requires-2
-    float-of-requires-3
-    float-of-requires-4
-    returns)
+    (tie.spec (λ c κs. search needs) (λ c κs. search needs) (λ c κs. search needs) (λ c κs. search needs)
+    (λ c κs. search needs) returns)

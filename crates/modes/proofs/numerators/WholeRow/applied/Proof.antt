@@ -11,17 +11,11 @@ use borrow.Author.Needs.{needs}
 use Rattle.modes.proofs.numerators.WholeRow.applied.Statement.{statement}
 use Rattle.modes.proofs.numerators.WholeRow.applied.Tie as tie
 
-cast-result : tie.Need-cast-result
-cast-result c = search needs
-
 mul-result : tie.Need-mul-result
 mul-result c =
     let s = c .before .before in
     let (small, (l, (o, t))) = s .pre in
     times-fits (s .args .self .left) l (small .left-small) (lit≤ tt)
-
-cast-result-2 : tie.Need-cast-result-2
-cast-result-2 c = search needs
 
 mul-result-2 : tie.Need-mul-result-2
 mul-result-2 c =
@@ -47,9 +41,6 @@ add-result c =
     let s = c .before .before .before .before in
     let (small, (l, (o, t))) = s .pre in
     add-first (s .args .self) small (s .args .left) (s .args .own) (s .args .right) l o t (left-part s) (own-part s) (right-part s) (constant-part s)
-
-cast-result-3 : tie.Need-cast-result-3
-cast-result-3 c = search needs
 
 mul-result-3 : tie.Need-mul-result-3
 mul-result-3 c =
@@ -78,14 +69,5 @@ returns c =
 pub applied-spec : {M : Type 1} → statement M
 applied-spec =
     tie.close
-    (tie.spec
-    cast-result
-    mul-result
-    cast-result-2
-    mul-result-2
-    add-result
-    cast-result-3
-    mul-result-3
-    add-result-2
-    add-result-3
-    returns)
+    (tie.spec (λ c. search needs) mul-result (λ c. search needs) mul-result-2 add-result (λ c. search needs)
+    mul-result-3 add-result-2 add-result-3 returns)

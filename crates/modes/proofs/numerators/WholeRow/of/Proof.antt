@@ -10,18 +10,6 @@ use borrow.Author.Needs.{needs}
 use Rattle.modes.proofs.numerators.WholeRow.of.Statement.{statement}
 use Rattle.modes.proofs.numerators.WholeRow.of.Tie as tie
 
-weighted-speed-requires : tie.Need-weighted-speed-requires
-weighted-speed-requires c κs = search needs
-
-own-coefficient-requires : tie.Need-own-coefficient-requires
-own-coefficient-requires c κs = search needs
-
-weighted-speed-requires-2 : tie.Need-weighted-speed-requires-2
-weighted-speed-requires-2 c κs = search needs
-
-constant-of-requires : tie.Need-constant-of-requires
-constant-of-requires c κs = search needs
-
 returns : tie.Need-returns
 unfolding wholeRow leftCoefficient rightCoefficient
 returns c =
@@ -42,9 +30,5 @@ returns c =
 pub of-spec : {M : Type 1} → statement M
 of-spec =
     tie.close
-    (tie.spec
-    weighted-speed-requires
-    own-coefficient-requires
-    weighted-speed-requires-2
-    constant-of-requires
+    (tie.spec (λ c κs. search needs) (λ c κs. search needs) (λ c κs. search needs) (λ c κs. search needs)
     returns)
