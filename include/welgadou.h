@@ -135,8 +135,8 @@
 extern "C" {
 #endif
 
-/* The version of this header: ten thousand a major, a hundred a minor version. 0.2.0 is 200. */
-#define WELGADOU_VERSION 200
+/* The version of this header: ten thousand a major, a hundred a minor version. 0.3.0 is 300. */
+#define WELGADOU_VERSION 300
 
 /* Returns: the version of the library that is linked, WELGADOU_VERSION where it is the one of this header. */
 uint32_t welgadou_version(void);

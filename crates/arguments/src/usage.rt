@@ -75,44 +75,57 @@ pub fn help(page: &mut Page) {
     asked(page);
 }
 
-// What --version prints.
-pub fn version(page: &mut Page) {
-    say::print(
-        page,
-        b"welgadou %.%.%\n",
-        &[
-            version::MAJOR as u64,
-            version::MINOR as u64,
-            version::PATCH as u64,
-        ],
-    );
+// What is said of the version and of wrong arguments.
+const FORMS: [u8; 154] = *b"welgadou %.%.%|
+usage: welgadou [--lines] [--picture OUT.bmp] [FILE], or --help|
+unexpected argument: 
+(an empty one)
+--picture needs the path of a file|
+";
+
+const VERSION: usize = 0;
+
+const USAGE: usize = 1;
+
+const UNEXPECTED: usize = 2;
+
+const EMPTY: usize = 3;
+
+const NO_PATH: usize = 4;
+
+fn say(page: &mut Page, form: usize, a: u64, b: u64, c: u64) {
+    say::form(page, &FORMS, form, a, b, c, 0);
 }
 
-fn hint(page: &mut Page) {
-    say::text(
+// What --version prints.
+pub fn version(page: &mut Page) {
+    say(
         page,
-        b"usage: welgadou [--lines] [--picture OUT.bmp] [FILE], or --help\n",
+        VERSION,
+        version::MAJOR as u64,
+        version::MINOR as u64,
+        version::PATCH as u64,
     );
 }
 
 // An argument that is not understood.
 pub fn refused(place: usize) {
     let mut page = page::open(page::ERRORS);
-    say::text(&mut page, b"unexpected argument: ");
+    say(&mut page, UNEXPECTED, 0, 0, 0);
     if words::is_argument(place, b"") {
-        say::text(&mut page, b"(an empty one)");
+        say(&mut page, EMPTY, 0, 0, 0);
     } else {
         words::show(&mut page, place, say::WORD);
     }
-    say::text(&mut page, b"\n");
-    hint(&mut page);
+    page::put(&mut page, b'\n');
+    say(&mut page, USAGE, 0, 0, 0);
     page::sent(&mut page);
 }
 
 // --picture as the last argument, or with an empty path.
 pub fn without_path() {
     let mut page = page::open(page::ERRORS);
-    say::text(&mut page, b"--picture needs the path of a file\n");
-    hint(&mut page);
+    say(&mut page, NO_PATH, 0, 0, 0);
+    say(&mut page, USAGE, 0, 0, 0);
     page::sent(&mut page);
 }

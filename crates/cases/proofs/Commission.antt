@@ -8,7 +8,7 @@ use lib.Dec.{T, eqb}
 use lib.IntN.{ℤ, pos}
 use lib.Ieee.{Float, fin, binary64, ofInt}
 use borrow.Author.Tests.{eq-eqb, ne-eqb}
-use Rattle.road.specs.Choice.{pick}
+use Rattle.choice.specs.Choice.{pick}
 use Rattle.road.specs.Table.{Row, judge, rising, Judged}
 use Rattle.road.specs.declared.Road.{Road}
 use Rattle.road.specs.declared.refusal.Refusal.{Refusal}
@@ -20,22 +20,23 @@ use Rattle.forecast.specs.Forecast.{forecastRefusal, forecastAnswer, forecastCe
 use Rattle.forecast.specs.Settle as Settle
 use Rattle.forecast.specs.Settle.{settleRefusal, settleAnswer, settleOutput, settleMeaning, Settlement}
 use Rattle.floats.specs.Worth.{Worth, FiniteUpTo}
-use Rattle.modes.specs.Words.{wordCount}
-use Rattle.modes.specs.Modes.{rowValue}
-use Rattle.modes.specs.Judging.{readRefusal, fitRefusal, predictRefusal}
-use Rattle.modes.specs.Places.{PairWordPlaced}
+use Rattle.counting.specs.WordCount.{wordCount}
+use Rattle.rows.specs.Rows.{rowValue}
+use Rattle.modes.specs.Judging.{readRefusal, fitRefusal}
+use Rattle.rows.specs.Judging.{predictRefusal}
+use Rattle.words.specs.Places.{PairWordPlaced}
 use Rattle.modes.specs.declared.reading.StateReading.{StateReading}
 use Rattle.modes.specs.declared.reading.Counts.{Counts}
 use Rattle.modes.specs.Reading.{countsOf, readAnswer, readLetters, readModes, ReadState}
 use Rattle.modes.specs.Fit as Fit
 use Rattle.modes.specs.Fit.{fitAnswer, fitMeaning, FitState}
-use Rattle.modes.specs.Prediction.{predictAnswer, predicted, PredictState}
-use Rattle.modes.specs.Candidate as Candidate
-use Rattle.modes.specs.Candidate.{candidateRefusal, candidateAnswer, candidateNumerator, candidateMeaning, CandidatePlaced, CandidateChecked, RowWhole}
-use Rattle.modes.specs.Count as Count
-use Rattle.modes.specs.Count.{countRefusal, countAnswer, countMeaning}
-use Rattle.modes.specs.LegalWordsCounted.{LegalWordsCounted}
-use Rattle.modes.proofs.SevenModes.{seven-modes}
+use Rattle.rows.specs.Prediction.{predictAnswer, predicted, PredictState}
+use Rattle.candidate.specs.Candidate as Candidate
+use Rattle.candidate.specs.Candidate.{candidateRefusal, candidateAnswer, candidateNumerator, candidateMeaning, CandidatePlaced, CandidateChecked, RowWhole}
+use Rattle.counting.specs.Count as Count
+use Rattle.counting.specs.Count.{countRefusal, countAnswer, countMeaning}
+use Rattle.counting.specs.LegalWordsCounted.{LegalWordsCounted}
+use Rattle.rows.proofs.SevenModes.{seven-modes}
 use Rattle.site.specs.Station as Station
 use Rattle.site.specs.Station.{estimateOf, stationRefusal, stationAnswer, stationMeaning}
 use Rattle.welgadou.specs.Parts.{flagOf}
@@ -81,9 +82,9 @@ told-as : {rows : List Row} {Checked : Type 0} {From To : Refusal → Type 0} {f
     → ((g : Refusal) → From g → To g) → Judged rows Checked From f → Judged rows Checked To f
 told-as {f = f} says j = record { first = j .first; lowest = j .lowest; placed = says f (j .placed); accepted = j .accepted; no-other = j .no-other }
 
-told : (o : Outcome) → Called o → Told o
+call-told : (o : Outcome) → Called o → Told o
 unfolding forecastRefusal forecastAnswer forecastCells forecastMeaning settleRefusal settleAnswer settleOutput settleMeaning readRefusal readAnswer readLetters readModes fitRefusal fitAnswer fitMeaning predictRefusal predictAnswer predicted candidateRefusal candidateAnswer candidateMeaning countRefusal countAnswer countMeaning stationRefusal stationAnswer stationMeaning
-told _ (forecast c) = record {
+call-told _ (forecast c) = record {
   judged = told-as value-places (c .judged);
   kept = λ n. former-of _ _ (λ z. n (ap (λ (m : Forecast.Meaning). m .number) (c .means) ∙ z)) (c .output);
   table = λ i. record { number = c .means i .number; place = c .means i .place };
@@ -91,7 +92,7 @@ told _ (forecast c) = record {
   rises = tt;
   made = λ z. (_, value-of _ _ (sym (ap (λ (m : Forecast.Meaning). m .number) (c .means)) ∙ z) (c .answer));
 }
-told _ (settle c) = record {
+call-told _ (settle c) = record {
   judged = told-as value-places (c .judged);
   kept = λ n. former-of _ _ (λ z. n (ap (λ (m : Settle.Meaning). m .number) (c .means) ∙ z)) (c .output);
   table = λ i. record { number = c .means i .number; place = c .means i .place };
@@ -99,7 +100,7 @@ told _ (settle c) = record {
   rises = tt;
   made = λ z. (_, value-of _ _ (sym (ap (λ (m : Settle.Meaning). m .number) (c .means)) ∙ z) (c .answer));
 }
-told _ (read c) = record {
+call-told _ (read c) = record {
   judged = told-as value-places (c .judged);
   kept = λ n. (former-of _ _ (λ z. n (c .number ∙ z)) (c .letters-written), former-of _ _ (λ z. n (c .number ∙ z)) (c .modes-written));
   table = λ i. record { number = c .number i; place = c .place i };
@@ -107,12 +108,12 @@ told _ (read c) = record {
   rises = tt;
   made = λ z. ap (λ (x : StateReading). x .answer) (value-of _ _ (sym (c .number) ∙ z) (c .answer));
 }
-told _ (fit c) = record { judged = told-as word-places (c .judged); kept = λ n. tt; table = λ i. record { number = c .means i .number; place = c .means i .place }; checks = refl; rises = tt; made = λ z. (_, value-of _ _ (sym (ap (λ (m : Fit.Meaning). m .number) (c .means)) ∙ z) (c .answer)) }
-told _ (predict c) = record { judged = told-as word-places (c .judged); kept = λ n. former-of _ _ (λ z. n (c .number ∙ z)) (c .output); table = λ i. record { number = c .number i; place = c .place i }; checks = refl; rises = tt; made = λ z. value-of _ _ (sym (c .number) ∙ z) (c .answer) }
-told _ (candidate {r = r} c) = record { judged = told-as (estimate-place r _ _ _) (c .judged); kept = λ n. tt; table = λ i. record { number = c .means i .number; place = c .means i .place }; checks = refl; rises = tt; made = λ z. (_, value-of _ _ (sym (ap (λ (m : Candidate.Meaning). m .number) (c .means)) ∙ z) (c .answer)) }
-told _ (count c) = record { judged = c .judged; kept = λ n. tt; table = λ i. record { number = c .means i .number; place = c .means i .place }; checks = refl; rises = tt; made = λ z. (_, value-of _ _ (sym (ap (λ (m : Count.Meaning). m .number) (c .means)) ∙ z) (c .answer)) }
-told _ (station c) = record { judged = c .judged; kept = λ n. tt; table = λ i. record { number = c .means i .number; place = c .means i .place }; checks = refl; rises = tt; made = λ z. (_, value-of _ _ (sym (ap (λ (m : Station.Meaning). m .number) (c .means)) ∙ z) (c .answer)) }
-told _ (welgadou-forecast c) = record {
+call-told _ (fit c) = record { judged = told-as word-places (c .judged); kept = λ n. tt; table = λ i. record { number = c .means i .number; place = c .means i .place }; checks = refl; rises = tt; made = λ z. (_, value-of _ _ (sym (ap (λ (m : Fit.Meaning). m .number) (c .means)) ∙ z) (c .answer)) }
+call-told _ (predict c) = record { judged = told-as word-places (c .judged); kept = λ n. former-of _ _ (λ z. n (c .number ∙ z)) (c .output); table = λ i. record { number = c .number i; place = c .place i }; checks = refl; rises = tt; made = λ z. value-of _ _ (sym (c .number) ∙ z) (c .answer) }
+call-told _ (candidate {r = r} c) = record { judged = told-as (estimate-place r _ _ _) (c .judged); kept = λ n. tt; table = λ i. record { number = c .means i .number; place = c .means i .place }; checks = refl; rises = tt; made = λ z. (_, value-of _ _ (sym (ap (λ (m : Candidate.Meaning). m .number) (c .means)) ∙ z) (c .answer)) }
+call-told _ (count c) = record { judged = c .judged; kept = λ n. tt; table = λ i. record { number = c .means i .number; place = c .means i .place }; checks = refl; rises = tt; made = λ z. (_, value-of _ _ (sym (ap (λ (m : Count.Meaning). m .number) (c .means)) ∙ z) (c .answer)) }
+call-told _ (station c) = record { judged = c .judged; kept = λ n. tt; table = λ i. record { number = c .means i .number; place = c .means i .place }; checks = refl; rises = tt; made = λ z. (_, value-of _ _ (sym (ap (λ (m : Station.Meaning). m .number) (c .means)) ∙ z) (c .answer)) }
+call-told _ (welgadou-forecast c) = record {
   judged = told-as value-places (c .judged);
   kept = λ n. (former-of _ _ (λ z. n (c .returned ∙ z)) (c .output), former-of _ _ n (c .entered-written), former-of _ _ n (c .left-written));
   table = λ i. record { number = c .returned i; place = c .placed i };
@@ -120,7 +121,7 @@ told _ (welgadou-forecast c) = record {
   rises = tt;
   made = λ z. tt;
 }
-told _ (welgadou-settle c) = record {
+call-told _ (welgadou-settle c) = record {
   judged = told-as value-places (c .judged);
   kept = λ n. (former-of _ _ (λ z. n (c .returned ∙ z)) (c .output), former-of _ _ n (c .settled-written), former-of _ _ n (c .steps-written));
   table = λ i. record { number = c .returned i; place = c .placed i };
@@ -128,7 +129,7 @@ told _ (welgadou-settle c) = record {
   rises = tt;
   made = λ z. let (b, same, says) = c .settlement z in (b, same);
 }
-told _ (welgadou-read c) = record {
+call-told _ (welgadou-read c) = record {
   judged = told-as value-places (c .judged);
   kept = λ n. (
     former-of _ _ (λ z. n (c .returned ∙ z)) (c .letters-written),
@@ -141,24 +142,24 @@ told _ (welgadou-read c) = record {
   rises = tt;
   made = λ z. tt;
 }
-told _ (welgadou-fit c) = record { judged = told-as word-places (c .judged); kept = λ n. (former-of _ _ n (c .holds-written), former-of _ _ n (c .face-written)); table = λ i. record { number = c .returned i; place = c .placed i }; checks = refl; rises = tt; made = λ z. let (b, same, says) = c .state z in (b, same) }
-told _ (welgadou-rows c) = record { judged = told-as word-places (c .judged); kept = λ n. former-of _ _ (λ z. n (c .returned ∙ z)) (c .output); table = λ i. record { number = c .returned i; place = c .placed i }; checks = refl; rises = tt; made = λ z. tt }
-told _ (welgadou-candidate {r = r} c) = record { judged = told-as (estimate-place r _ _ _) (c .judged); kept = λ n. former-of _ _ n (c .numerator-written); table = λ i. record { number = c .returned i; place = c .placed i }; checks = refl; rises = tt; made = λ z. tt }
-told _ (welgadou-count c) = record { judged = c .judged; kept = λ n. former-of _ _ n (c .words-written); table = λ i. record { number = c .returned i; place = c .placed i }; checks = refl; rises = tt; made = λ z. tt }
-told _ (welgadou-station c) = record { judged = c .judged; kept = λ n. former-of _ _ n (c .estimate-written); table = λ i. record { number = c .returned i; place = c .placed i }; checks = refl; rises = tt; made = λ z. tt }
+call-told _ (welgadou-fit c) = record { judged = told-as word-places (c .judged); kept = λ n. (former-of _ _ n (c .holds-written), former-of _ _ n (c .face-written)); table = λ i. record { number = c .returned i; place = c .placed i }; checks = refl; rises = tt; made = λ z. let (b, same, says) = c .state z in (b, same) }
+call-told _ (welgadou-rows c) = record { judged = told-as word-places (c .judged); kept = λ n. former-of _ _ (λ z. n (c .returned ∙ z)) (c .output); table = λ i. record { number = c .returned i; place = c .placed i }; checks = refl; rises = tt; made = λ z. tt }
+call-told _ (welgadou-candidate {r = r} c) = record { judged = told-as (estimate-place r _ _ _) (c .judged); kept = λ n. former-of _ _ n (c .numerator-written); table = λ i. record { number = c .returned i; place = c .placed i }; checks = refl; rises = tt; made = λ z. tt }
+call-told _ (welgadou-count c) = record { judged = c .judged; kept = λ n. former-of _ _ n (c .words-written); table = λ i. record { number = c .returned i; place = c .placed i }; checks = refl; rises = tt; made = λ z. tt }
+call-told _ (welgadou-station c) = record { judged = c .judged; kept = λ n. former-of _ _ n (c .estimate-written); table = λ i. record { number = c .returned i; place = c .placed i }; checks = refl; rises = tt; made = λ z. tt }
 
 demand1 : Demand1
 demand1 = record {
-  judges = λ o c. told o c .judged .accepted;
-  first = λ o c. told o c .judged .first .fits;
-  returned = λ o c. told o c .judged .first .found;
-  checks = λ o c. told o c .checks;
-  lowest = λ o c. told o c .judged .lowest (told o c .rises) .lowest;
-  place = λ o c. told o c .judged .placed;
-  table = λ o c. told o c .table;
-  no-other = λ o c. told o c .judged .no-other;
-  made = λ o c. told o c .made;
-  kept = λ o c. told o c .kept;
+  judges = λ o c. call-told o c .judged .accepted;
+  first = λ o c. call-told o c .judged .first .fits;
+  returned = λ o c. call-told o c .judged .first .found;
+  checks = λ o c. call-told o c .checks;
+  lowest = λ o c. call-told o c .judged .lowest (call-told o c .rises) .lowest;
+  place = λ o c. call-told o c .judged .placed;
+  table = λ o c. call-told o c .table;
+  no-other = λ o c. call-told o c .judged .no-other;
+  made = λ o c. call-told o c .made;
+  kept = λ o c. call-told o c .kept;
 }
 
 -- ---- what each accepted call made, in one form for both layers

@@ -6,13 +6,14 @@ use Rattle.road.specs.Judgement.{roadRefusal}
 use Rattle.checks.specs.Values.{firstAbove}
 use Rattle.forecast.specs.Forecast.{forecastRefusal, forecastAnswer}
 use Rattle.forecast.specs.Settle.{settleRefusal, settleAnswer}
-use Rattle.modes.specs.Words.{illegalPair, offends, firstOffence, legal}
-use Rattle.modes.specs.Judging.{readRefusal, fitRefusal, predictRefusal}
+use Rattle.words.specs.Words.{illegalPair, offends, firstOffence, legal}
+use Rattle.modes.specs.Judging.{readRefusal, fitRefusal}
+use Rattle.rows.specs.Judging.{predictRefusal}
 use Rattle.modes.specs.Reading.{readAnswer}
 use Rattle.modes.specs.Fit.{fitAnswer}
-use Rattle.modes.specs.Prediction.{predictAnswer}
-use Rattle.modes.specs.Candidate.{candidateRefusal, candidateAnswer, candidateMeaning}
-use Rattle.modes.specs.Count.{countRefusal, countAnswer}
+use Rattle.rows.specs.Prediction.{predictAnswer}
+use Rattle.candidate.specs.Candidate.{candidateRefusal, candidateAnswer, candidateMeaning}
+use Rattle.counting.specs.Count.{countRefusal, countAnswer}
 use Rattle.site.specs.Station.{speedDensity, estimateOf, badNumber, badGiven, tooFast, stationRefusal, stationAnswer}
 use Rattle.cases.specs.Refusals.{Refusals}
 

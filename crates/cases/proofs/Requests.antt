@@ -6,7 +6,7 @@ use Prim.Native.Nat.{ℕ}
 use lib.Dec.{eqb}
 use lib.IntN.{ℤ, pos}
 use lib.Ieee.{Float, fin, round, sum, add, mul, div, lt, eq, le, ne, ofInt, ofBits}
-use Rattle.road.specs.Choice.{pick}
+use Rattle.choice.specs.Choice.{pick}
 use Rattle.road.specs.Table.{row, judge, orIf}
 use Rattle.road.specs.Judgement.{roadRows}
 use Rattle.road.specs.declared.refusal.Refusal.{Refusal}

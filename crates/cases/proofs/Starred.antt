@@ -12,12 +12,15 @@ use Rattle.scheme.specs.Rounded.{roundRun, entered, left}
 use Rattle.scheme.specs.Settling.{still, settles, settleSteps, settleCells}
 use Rattle.forecast.specs.Forecast.{forecastRefusal, forecastAnswer, forecastCells}
 use Rattle.forecast.specs.Settle.{settleRefusal, settleAnswer, settleOutput}
-use Rattle.modes.specs.Modes.{modeOf, modesOf, rowTable, rowOf, terms, dot, rowValue, rowNumerators}
-use Rattle.modes.specs.Words.{illegalPair, offends, firstOffence, legal, turned, wordCount}
-use Rattle.modes.specs.Judging.{readRefusal, predictRefusal}
+use Rattle.modes.specs.Modes.{modeOf, modesOf}
+use Rattle.rows.specs.Rows.{rowTable, rowOf, terms, dot, rowValue, rowNumerators}
+use Rattle.words.specs.Words.{illegalPair, offends, firstOffence, legal}
+use Rattle.counting.specs.WordCount.{turned, wordCount}
+use Rattle.modes.specs.Judging.{readRefusal}
+use Rattle.rows.specs.Judging.{predictRefusal}
 use Rattle.modes.specs.Reading.{readLetters, readModes}
-use Rattle.modes.specs.Prediction.{predicted}
-use Rattle.modes.specs.Count.{countRefusal, countAnswer}
+use Rattle.rows.specs.Prediction.{predicted}
+use Rattle.counting.specs.Count.{countRefusal, countAnswer}
 use Rattle.cases.specs.Starred.{Starred}
 
 pub starred : Starred

@@ -14,13 +14,14 @@ use Rattle.forecast.specs.Forecast.{forecastRefusal, Checked}
 use Rattle.forecast.specs.Settle.{settleRefusal, SettleChecked}
 use Rattle.forecast.specs.Chain.{Passes, AllPass}
 use Rattle.forecast.proofs.Checked.{forecast-call, settle-call}
-use Rattle.modes.specs.Words.{illegalPair, offends, firstOffence, legal}
-use Rattle.modes.specs.Judging.{readRefusal, fitRefusal, predictRefusal}
-use Rattle.modes.specs.Candidate.{candidateRefusal}
+use Rattle.words.specs.Words.{illegalPair, offends, firstOffence, legal}
+use Rattle.modes.specs.Judging.{readRefusal, fitRefusal}
+use Rattle.rows.specs.Judging.{predictRefusal}
+use Rattle.candidate.specs.Candidate.{candidateRefusal}
 use Rattle.modes.proofs.ReadJudging.{read-call}
 use Rattle.modes.proofs.FitAnswers.{fit-call}
-use Rattle.modes.proofs.PredictAnswers.{predict-call}
-use Rattle.modes.proofs.CandidateAnswers.{candidate-call}
+use Rattle.rows.proofs.PredictAnswers.{predict-call}
+use Rattle.candidate.proofs.CandidateAnswers.{candidate-call}
 use Rattle.site.specs.Station.{whole, speedDensity, estimateOf, badNumber, badGiven, tooFast, stationRefusal}
 use Rattle.site.specs.declared.stations.StationReading.the-variants.{Density, FlowAndSpeed, Speed}
 use Rattle.site.proofs.StationAnswers.{station-call}

@@ -29,24 +29,25 @@ use Rattle.modes.specs.declared.reading.StateReading.{StateReading}
 use Rattle.modes.specs.declared.fitting.FitResult.{FitResult}
 use Rattle.modes.specs.declared.fitting.FitAnswer.{FitAnswer}
 use Rattle.modes.specs.declared.fitting.FitAnswer.the-variants as T
-use Rattle.modes.specs.declared.prediction.PredictAnswer.{PredictAnswer}
-use Rattle.modes.specs.declared.prediction.PredictAnswer.the-variants as P
-use Rattle.modes.specs.declared.candidates.CandidateResult.{CandidateResult}
-use Rattle.modes.specs.declared.candidates.CandidateAnswer.{CandidateAnswer}
-use Rattle.modes.specs.declared.candidates.CandidateAnswer.the-variants as C
-use Rattle.modes.specs.declared.counting.WordCount.{WordCount}
-use Rattle.modes.specs.declared.counting.CountAnswer.{CountAnswer}
-use Rattle.modes.specs.declared.counting.CountAnswer.the-variants as N
-use Rattle.modes.specs.Judging.{readRows, fitRows, predictRows}
-use Rattle.modes.specs.Places.{offendsAt}
+use Rattle.rows.specs.declared.prediction.PredictAnswer.{PredictAnswer}
+use Rattle.rows.specs.declared.prediction.PredictAnswer.the-variants as P
+use Rattle.candidate.specs.declared.candidates.CandidateResult.{CandidateResult}
+use Rattle.candidate.specs.declared.candidates.CandidateAnswer.{CandidateAnswer}
+use Rattle.candidate.specs.declared.candidates.CandidateAnswer.the-variants as C
+use Rattle.counting.specs.declared.counting.WordCount.{WordCount}
+use Rattle.counting.specs.declared.counting.CountAnswer.{CountAnswer}
+use Rattle.counting.specs.declared.counting.CountAnswer.the-variants as N
+use Rattle.modes.specs.Judging.{readRows, fitRows}
+use Rattle.rows.specs.Judging.{predictRows}
+use Rattle.words.specs.Places.{offendsAt}
 use Rattle.modes.specs.Reading.{readNumber, readPlace, ReadChecked, Reads}
 use Rattle.modes.specs.Fit as Fit
 use Rattle.modes.specs.Fit.{FitChecked, Fits}
-use Rattle.modes.specs.Prediction.{predictNumber, predictPlace, PredictChecked, Predicts}
-use Rattle.modes.specs.Candidate as Candidate
-use Rattle.modes.specs.Candidate.{badEstimate, candidateRows, CandidateChecked, Candidates}
-use Rattle.modes.specs.Count as Count
-use Rattle.modes.specs.Count.{countRows, CountsWords}
+use Rattle.rows.specs.Prediction.{predictNumber, predictPlace, PredictChecked, Predicts}
+use Rattle.candidate.specs.Candidate as Candidate
+use Rattle.candidate.specs.Candidate.{badEstimate, candidateRows, CandidateChecked, Candidates}
+use Rattle.counting.specs.Count as Count
+use Rattle.counting.specs.Count.{countRows, CountsWords}
 use Rattle.site.specs.declared.stations.StationReading.{StationReading}
 use Rattle.site.specs.declared.stations.Estimate.{Estimate}
 use Rattle.site.specs.declared.stations.StationAnswer.{StationAnswer}

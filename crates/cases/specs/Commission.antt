@@ -21,17 +21,20 @@ use Rattle.scheme.specs.ByFaces.{RunByFaces, ExactStepByFaces, ExactRunByFaces}
 use Rattle.scheme.specs.Exact.{exactStep, exactRun}
 use Rattle.scheme.specs.Settling.{still, after}
 use Rattle.forecast.specs.Settle.{PairByFaces}
-use Rattle.modes.specs.Words.{legal, upstreamOf, downstreamOf, cellsOf, wordCount}
-use Rattle.modes.specs.Modes.{modesOf, rowValue, rowNumerators}
-use Rattle.modes.specs.SevenModes.{SevenModes}
-use Rattle.modes.specs.Coefficients.{leftCoefficient, ownCoefficient, rightCoefficient, constantOf}
+use Rattle.words.specs.Words.{legal}
+use Rattle.modes.specs.ReadOff.{upstreamOf, downstreamOf, cellsOf}
+use Rattle.counting.specs.WordCount.{wordCount}
+use Rattle.modes.specs.Modes.{modesOf}
+use Rattle.rows.specs.Rows.{rowValue, rowNumerators}
+use Rattle.rows.specs.SevenModes.{SevenModes}
+use Rattle.rows.specs.Coefficients.{leftCoefficient, ownCoefficient, rightCoefficient, constantOf}
 use Rattle.modes.specs.declared.fitting.FitAnswer.{FitAnswer}
 use Rattle.modes.specs.Fit.{allHold, Fits, AnswersFit}
 use Rattle.modes.specs.declared.reading.ReadAnswer.the-variants.{Done}
 use Rattle.modes.specs.declared.reading.StateReading.{StateReading}
 use Rattle.modes.specs.Reading.{countOf, ReadChecked, Reads}
-use Rattle.modes.specs.LegalWordsCounted.{legalWords, StandsAt}
-use Rattle.modes.specs.Candidate.{rowFor, candidateNumerator}
+use Rattle.counting.specs.LegalWordsCounted.{legalWords, StandsAt}
+use Rattle.candidate.specs.Candidate.{rowFor, candidateNumerator}
 use Rattle.site.specs.Station.{estimateOf}
 use Rattle.cases.specs.Calls.{Outcome, Called, AcceptedForecast, ForecastMade, AcceptedSettling, SettlingMade, AcceptedReading, ReadingMade, AcceptedFit, FitMade, AcceptedRows, RowsMade, AcceptedCandidate, CandidateMade, AcceptedCount, CountMade, AcceptedStation, StationMade}
 

@@ -18,14 +18,14 @@ use Rattle.forecast.specs.declared.forecasting.ForecastAnswer.the-variants as F
 use Rattle.forecast.specs.declared.settling.SettleAnswer.the-variants as Settle
 use Rattle.modes.specs.Reading.{readAnswer}
 use Rattle.modes.specs.Fit.{fitAnswer}
-use Rattle.modes.specs.Prediction.{predictAnswer}
-use Rattle.modes.specs.Candidate.{candidateAnswer}
-use Rattle.modes.specs.Count.{countAnswer}
+use Rattle.rows.specs.Prediction.{predictAnswer}
+use Rattle.candidate.specs.Candidate.{candidateAnswer}
+use Rattle.counting.specs.Count.{countAnswer}
 use Rattle.modes.specs.declared.reading.ReadAnswer.the-variants as Read
 use Rattle.modes.specs.declared.fitting.FitAnswer.the-variants as Fit
-use Rattle.modes.specs.declared.prediction.PredictAnswer.the-variants as Predict
-use Rattle.modes.specs.declared.candidates.CandidateAnswer.the-variants as Candidate
-use Rattle.modes.specs.declared.counting.CountAnswer.the-variants as Count
+use Rattle.rows.specs.declared.prediction.PredictAnswer.the-variants as Predict
+use Rattle.candidate.specs.declared.candidates.CandidateAnswer.the-variants as Candidate
+use Rattle.counting.specs.declared.counting.CountAnswer.the-variants as Count
 use Rattle.site.specs.Station.{whole, stationAnswer}
 use Rattle.site.specs.declared.stations.StationReading.the-variants.{Density, FlowAndSpeed, Speed}
 use Rattle.site.specs.declared.stations.StationAnswer.the-variants as Station

@@ -11,10 +11,10 @@ use Rattle.scheme.specs.Exact.{exactStep}
 use Rattle.forecast.specs.Forecast as Forecast
 use Rattle.forecast.specs.Settle as Settle
 use Rattle.modes.specs.Reading.{readLetters, readModes}
-use Rattle.modes.specs.Prediction.{predicted}
-use Rattle.modes.specs.Count.{countAnswer}
-use Rattle.modes.specs.declared.counting.CountAnswer.{CountAnswer}
-use Rattle.modes.specs.declared.counting.CountAnswer.the-variants.{Done}
+use Rattle.rows.specs.Prediction.{predicted}
+use Rattle.counting.specs.Count.{countAnswer}
+use Rattle.counting.specs.declared.counting.CountAnswer.{CountAnswer}
+use Rattle.counting.specs.declared.counting.CountAnswer.the-variants.{Done}
 
 -- Road A: J 1000, C 200, D 5, p 4, q 1
 abbrev pub roadA : Road

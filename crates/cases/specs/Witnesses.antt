@@ -11,8 +11,8 @@ use Rattle.forecast.specs.Settle.{SettleChecked}
 use Rattle.forecast.specs.Chain.{Call, forecast, settle, AllPass}
 use Rattle.modes.specs.Reading.{ReadChecked}
 use Rattle.modes.specs.Fit.{FitChecked}
-use Rattle.modes.specs.Prediction.{PredictChecked}
-use Rattle.modes.specs.Candidate.{CandidateChecked}
+use Rattle.rows.specs.Prediction.{PredictChecked}
+use Rattle.candidate.specs.Candidate.{CandidateChecked}
 use Rattle.site.specs.Station.{whole, StationChecked}
 use Rattle.site.specs.declared.stations.StationReading.the-variants.{Density, FlowAndSpeed, Speed}
 use Rattle.cases.specs.Starred.{roadA, three}

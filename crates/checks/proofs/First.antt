@@ -11,48 +11,43 @@ use borrow.Author.Tests.{lt-ltb, le-ltb, ltb-true, ltb-false}
 use Rattle.checks.specs.Values.{firstAbove, anyAbove, FirstAbove}
 
 -- one density of the search, by its test
-here : (j x : ℕ) (xs : List ℕ) → j < x → firstAbove j (x ∷ xs) ≡ 0
+firstAbove-head : (j x : ℕ) (xs : List ℕ) → j < x → firstAbove j (x ∷ xs) ≡ 0
 unfolding firstAbove
-here j x xs h = rw (lt-ltb j x h)
+firstAbove-head j x xs h = rw (lt-ltb j x h)
 
-on : (j x : ℕ) (xs : List ℕ) → x ≤ j → firstAbove j (x ∷ xs) ≡ suc (firstAbove j xs)
+firstAbove-tail : (j x : ℕ) (xs : List ℕ) → x ≤ j → firstAbove j (x ∷ xs) ≡ suc (firstAbove j xs)
 unfolding firstAbove
-on j x xs h = rw (le-ltb j x h)
+firstAbove-tail j x xs h = rw (le-ltb j x h)
 
 -- a place before which nothing is above, and which is above or the end, is the first
 pub first-is : (j : ℕ) (xs : List ℕ) (k : ℕ) → k ≤ length xs → ((i : ℕ) → i < k → getD xs i 0 ≤ j) → (k < length xs → j < getD xs k 0) → firstAbove j xs ≡ k
 unfolding firstAbove
 first-is j [] zero h low high = refl
 first-is j [] (suc k) h low high = absurd (not-suc-le-zero h)
-first-is j (x ∷ xs) zero h low high = here j x xs (high (suc-le-suc zero-le))
+first-is j (x ∷ xs) zero h low high = firstAbove-head j x xs (high (suc-le-suc zero-le))
 first-is j (x ∷ xs) (suc k) h low high =
-    on j x xs (low 0 (suc-le-suc zero-le))
+    firstAbove-tail j x xs (low 0 (suc-le-suc zero-le))
     ∙ ap suc (first-is j xs k (le-of-suc-le-suc h) (λ i l. low (suc i) (suc-le-suc l)) (λ l. high (suc-le-suc l)))
 
 -- what a search of xs that ended at k has seen
 record Searched (j : ℕ) (xs : List ℕ) (k : ℕ) : Type 0 where
-  bound : k ≤ length xs
   low : (i : ℕ) → i < k → getD xs i 0 ≤ j
   high : k < length xs → j < getD xs k 0
 
 searched : (j : ℕ) (xs : List ℕ) → Searched j xs (firstAbove j xs)
 unfolding firstAbove
-searched j [] = record { bound = zero-le; low = λ i h. zero-le; high = λ h. absurd (not-suc-le-zero h) }
+searched j [] = record { low = λ i h. zero-le; high = λ h. absurd (not-suc-le-zero h) }
 searched j (x ∷ xs) = by-density (decLt j x) (searched j xs)
   where
     by-density : Dec (j < x) → Searched j xs (firstAbove j xs) → Searched j (x ∷ xs) (firstAbove j (x ∷ xs))
     by-density (yes a) rest =
-        rw (here j x xs a) record { bound = zero-le; low = λ i h. absurd (not-suc-le-zero h); high = λ h. a }
+        rw (firstAbove-head j x xs a) record { low = λ i h. absurd (not-suc-le-zero h); high = λ h. a }
     by-density (no n) rest =
-        rw (on j x xs (omega arith)) record { bound = suc-le-suc (rest .bound); low = low; high = λ h. rest .high (le-of-suc-le-suc h) }
+        rw (firstAbove-tail j x xs (omega arith)) record { low = low; high = λ h. rest .high (le-of-suc-le-suc h) }
       where
         low : (i : ℕ) → i < suc (firstAbove j xs) → getD (x ∷ xs) i 0 ≤ j
         low zero h = omega arith
         low (suc i) h = rest .low i (le-of-suc-le-suc h)
-
--- the search stays within the list
-pub first-bound : (j : ℕ) (xs : List ℕ) → firstAbove j xs ≤ length xs
-first-bound j xs = searched j xs .bound
 
 -- a place that is reported is above jam, and no earlier one is
 pub first-above : (j : ℕ) (xs : List ℕ) → anyAbove j xs ≡ true → FirstAbove j xs (firstAbove j xs)

@@ -8,18 +8,19 @@ use lib.ListN.{getD}
 use borrow.Author.Tests.{eqb-true, eq-eqb, ltb-false, le-ltb, not-false}
 use Rattle.road.specs.Ceilings.{cellsCeiling, horizonCeiling}
 use Rattle.road.specs.declared.Road.{Road}
-use Rattle.road.specs.Choice.{pick}
+use Rattle.choice.specs.Choice.{pick}
 use Rattle.road.specs.Table.{refused, orIf}
 use Rattle.road.specs.declared.refusal.Refusal.{Refusal}
 use Rattle.road.proofs.Table.{next-row, _&_}
-use Rattle.road.proofs.Choice.{or-left, or-right, neither, from-low, to-high, inside}
+use Rattle.choice.proofs.Choice.{or-left, or-right, neither}
+use Rattle.road.proofs.Ranges.{from-low, to-high, inside}
 use Rattle.checks.specs.Lists.{badCells, badHorizon, badEnds, badOutput}
 use Rattle.checks.specs.Values.{firstAbove, anyAbove}
 use Rattle.checks.proofs.First.{none-above}
 
 -- two numbers that a test does not tell apart
-same : (a b : ℕ) → not (eqb a b) ≡ false → a ≡ b
-same a b e = eqb-true a b (not-false (eqb a b) e)
+equal-of-not-eqb : (a b : ℕ) → not (eqb a b) ≡ false → a ≡ b
+equal-of-not-eqb a b e = eqb-true a b (not-false (eqb a b) e)
 
 alike : (a b : ℕ) → a ≡ b → not (eqb a b) ≡ false
 alike a b e = rw (eq-eqb a b e)
@@ -40,16 +41,16 @@ pub horizon-passes : (t : ℕ) → t ≤ horizonCeiling → badHorizon t ≡ fal
 horizon-passes t h = le-ltb horizonCeiling t h
 
 pub ups-long : (t ups downs : ℕ) → badEnds t ups downs ≡ false → ups ≡ t
-ups-long t ups downs e = same ups t (or-left (not (eqb ups t)) (not (eqb downs t)) e)
+ups-long t ups downs e = equal-of-not-eqb ups t (or-left (not (eqb ups t)) (not (eqb downs t)) e)
 
 pub downs-long : (t ups downs : ℕ) → badEnds t ups downs ≡ false → downs ≡ t
-downs-long t ups downs e = same downs t (or-right (not (eqb ups t)) (not (eqb downs t)) e)
+downs-long t ups downs e = equal-of-not-eqb downs t (or-right (not (eqb ups t)) (not (eqb downs t)) e)
 
 pub ends-pass : (t ups downs : ℕ) → ups ≡ t → downs ≡ t → badEnds t ups downs ≡ false
 ends-pass t ups downs u d = neither (not (eqb ups t)) (not (eqb downs t)) (alike ups t u) (alike downs t d)
 
 pub output-long : (expected given : ℕ) → badOutput expected given ≡ false → given ≡ expected
-output-long expected given e = same given expected e
+output-long expected given e = equal-of-not-eqb given expected e
 
 pub output-passes : (expected given : ℕ) → given ≡ expected → badOutput expected given ≡ false
 output-passes expected given e = alike given expected e

@@ -2,7 +2,7 @@
 use mathlib.Core.Bool.{Bool, not}
 use Prim.Native.Nat.{ℕ}
 use lib.Dec.{eqb, ltb}
-use Rattle.road.specs.Choice.{or}
+use Rattle.choice.specs.Choice.{or}
 use Rattle.road.specs.Ceilings.{cellsCeiling, horizonCeiling}
 use Rattle.road.specs.Judgement.{outside}
 

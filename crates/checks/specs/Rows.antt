@@ -21,7 +21,7 @@
 --   18       resultRow                  site, Station             0
 use mathlib.Core.List.{List, [], _∷_}
 use Prim.Native.Nat.{ℕ, _+_}
-use Rattle.road.specs.Choice.{or}
+use Rattle.choice.specs.Choice.{or}
 use Rattle.road.specs.Table.{Row, row}
 use Rattle.road.specs.declared.Road.{Road}
 use Rattle.checks.specs.Lists.{badCells, badHorizon, badEnds, badOutput}

@@ -7,7 +7,7 @@ use road::Road;
 pub fn bad_cells(n: usize) -> bool
     ensures { λ b. ⌜ b ≡ badCells n ⌝ }
 {
-    road::either(n < 1, (Road::CELLS as usize) < n)
+    choice::either(n < 1, (Road::CELLS as usize) < n)
 }
 
 // Internal: 6, the horizon is above its ceiling.
@@ -21,7 +21,7 @@ pub fn bad_horizon(horizon: u32) -> bool
 pub fn bad_ends(horizon: u32, ups: usize, downs: usize) -> bool
     ensures { λ b. ⌜ b ≡ badEnds horizon ups downs ⌝ }
 {
-    road::either(ups != horizon as usize, downs != horizon as usize)
+    choice::either(ups != horizon as usize, downs != horizon as usize)
 }
 
 // Internal: 8, an output's length differs from its call's.

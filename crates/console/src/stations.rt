@@ -27,17 +27,31 @@ fn reading(text: &[u8]) -> StationReading {
     }
 }
 
+// What is printed, one form a line (`printing::say::form`).
+const FORMS: [u8; 47] = *b"  estimate about %.%%%|
+done station 
+station|
+";
+
+const ABOUT: usize = 0;
+
+const LINE: usize = 1;
+
+const STATION: usize = 2;
+
+fn say(page: &mut Page, form: usize, a: u64, b: u64, c: u64, d: u64) {
+    say::form(page, &FORMS, form, a, b, c, d);
+}
+
 // A number of thousandths as a decimal, after its name.
 fn decimal(page: &mut Page, thousandths: u64) {
-    say::print(
+    say(
         page,
-        b"  estimate about %.%%%\n",
-        &[
-            thousandths / 1000,
-            thousandths / 100 % 10,
-            thousandths / 10 % 10,
-            thousandths % 10,
-        ],
+        ABOUT,
+        thousandths / 1000,
+        thousandths / 100 % 10,
+        thousandths / 10 % 10,
+        thousandths % 10,
     );
 }
 
@@ -56,10 +70,10 @@ fn about(page: &mut Page, x: f64) {
 
 fn report(page: &mut Page, lines: bool, x: f64) {
     if lines {
-        say::text(page, b"done station ");
+        say(page, LINE, 0, 0, 0, 0);
         doubles::print(page, true, b"estimate", x);
     } else {
-        say::text(page, b"station\n");
+        say(page, STATION, 0, 0, 0, 0);
         doubles::print(page, false, b"estimate", x);
         about(page, x);
     }

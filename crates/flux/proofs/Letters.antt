@@ -7,10 +7,10 @@ use native.Mathlib.Nat.{le-of-lt, mul-le-mul-left, mul-lt-mul-of-pos-left, min-e
 use native.Mathlib.Decide.{decLe}
 use native.Mathlib.Omega.{arith}
 use borrow.Author.Tests.{lt-ltb, le-ltb, le-leb, lt-leb}
-use Rattle.road.specs.Choice.{both}
+use Rattle.choice.specs.Choice.{both}
 use Rattle.road.specs.Judgement.{Accepted}
 use Rattle.road.specs.declared.Road.{Road}
-use Rattle.road.proofs.Choice.{both-false}
+use Rattle.choice.proofs.Choice.{both-false}
 use Rattle.flux.specs.Face.{sending, receiving, numerator, letterW, letterL, letterD, inW, inL, letter}
 use Rattle.flux.proofs.Laws.{sending-free, sending-full, receiving-free, receiving-full}
 use Rattle.flux.specs.Letters.{Lettered, PublishedFlow}

@@ -2,7 +2,7 @@
 use mathlib.Core.Bool.{Bool}
 use Prim.Native.Nat.{ℕ, _-_, _*_, _/_, min, max}
 use lib.Dec.{ltb, leb}
-use Rattle.road.specs.Choice.{pick, both}
+use Rattle.choice.specs.Choice.{pick, both}
 use Rattle.road.specs.declared.Road.{Road}
 
 -- what the upstream cell can send, times D: source 004 (II.8)

@@ -1,7 +1,7 @@
 -- The units of a face without a division: multipliers made once a road.
 use Prim.Native.Nat.{ℕ, _+_, _-_, _*_, _/_, _^_}
 use lib.Dec.{ltb}
-use Rattle.road.specs.Choice.{pick}
+use Rattle.choice.specs.Choice.{pick}
 use Rattle.road.specs.declared.Road.{Road}
 use Rattle.flux.specs.Face.{units}
 use Rattle.flux.specs.declared.pace.Factor.{Factor}

@@ -5,6 +5,13 @@ ghost use Rattle.road.specs.Judgement.{Accepted};
 ghost use Rattle.flux.specs.Face.{sending, receiving, numerator, units, letter};
 use road::Road;
 
+// The letters' codes.
+pub const W: u8 = 0;
+
+pub const L: u8 = 1;
+
+pub const D: u8 = 2;
+
 // Internal: the smaller of two numbers.
 fn smaller(a: u32, b: u32) -> u32
     ensures { λ r. ⌜ r ≡ min a b ⌝ }
@@ -63,10 +70,10 @@ pub fn letter(r: Road, a: u32, b: u32) -> u8
     if r.critical < b {
         let room = r.wave * (r.jam - b);
         let sent = r.free * a;
-        if room < sent { 0 } else { 2 }
+        if room < sent { W } else { D }
     } else if r.critical < a {
-        1
+        L
     } else {
-        2
+        D
     }
 }

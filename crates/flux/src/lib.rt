@@ -2,6 +2,9 @@
 mod face;
 mod pace;
 
+pub use face::D;
+pub use face::L;
+pub use face::W;
 pub use face::letter;
 pub use face::numerator;
 pub use face::units;

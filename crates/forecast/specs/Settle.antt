@@ -5,7 +5,7 @@ use mathlib.Core.List.{List, [], _∷_, _++_}
 use Prim.Native.Nat.{ℕ, _≤_}
 use lib.Dec.{eqb}
 use lib.ListN.{length, replicate}
-use Rattle.road.specs.Choice.{pick}
+use Rattle.choice.specs.Choice.{pick}
 use Rattle.road.specs.Table.{Row, judge, refused, Judged}
 use Rattle.road.specs.Ceilings.{cellsCeiling, horizonCeiling}
 use Rattle.road.specs.Judgement.{roadRows, Accepted}

@@ -1,4 +1,6 @@
 // Messages on a text that is not acted on: its name, the line, what was expected there and what was found.
+use super::needs;
+use super::needs::MOST;
 use super::pointing;
 use arguments::words;
 use printing::page;
@@ -7,79 +9,182 @@ use printing::say;
 use request::keys;
 use scenario::Verdict;
 
+// What was expected, in the line of each verdict; behind them what goes with one, and what is said of the actions.
+const FORMS: [u8; 820] = *b"
+a line of at most 4096 bytes
+a keyword (--help has them)
+whole decimal numbers
+numbers up to %
+% number~
+only one line of 
+nothing after end
+a line of end; the text stops before it
+lines of keywords; there is nothing in the text
+letters W, L, D or codes
+, each N or N^K (N, K times),
+, counts up to 4294967295,
+1 or more values
+nothing
+ (D p q J C)
+ (upstream downstream)
+ (A B, for A / B)
+ (left own right)
+ after 
+, found 
+, found % value~
+, found one before in line %
+standard input
+:%: error: 
+expected 
+ needs
+candidate takes estimates or bits, not both
+candidate needs estimates or bits
+station takes density, or flow and speed, or speed alone
+station needs density, or flow and speed, or speed
+expected an action: forecast, settle, read, readlast, fit, rows, candidate, count or station
+--picture needs forecast
+";
+
+// The verdicts on values and on a line given again.
+const VALUE: u32 = 3;
+
+const TOO_LARGE: u32 = 4;
+
+const COUNT: u32 = 5;
+
+const AGAIN: u32 = 6;
+
+// The lines behind the verdicts'.
+const LETTERS: usize = 10;
+
+const RUNS: usize = 11;
+
+const COUNTS: usize = 12;
+
+const SOME: usize = 13;
+
+const NOTHING: usize = 14;
+
+const OF_ROAD: usize = 15;
+
+const OF_PAIR: usize = 16;
+
+const OF_QUOTIENT: usize = 17;
+
+const OF_ESTIMATES: usize = 18;
+
+const AFTER: usize = 19;
+
+const FOUND: usize = 20;
+
+const FOUND_VALUES: usize = 21;
+
+const FOUND_BEFORE: usize = 22;
+
+const STANDARD_INPUT: usize = 23;
+
+const ERROR: usize = 24;
+
+const EXPECTED: usize = 25;
+
+const NEEDS: usize = 26;
+
+pub const BOTH_ESTIMATES: usize = 27;
+
+pub const NO_ESTIMATES: usize = 28;
+
+pub const MIXED_READING: usize = 29;
+
+pub const NO_READING: usize = 30;
+
+pub const NO_ACTION: usize = 31;
+
+pub const NO_FORECAST: usize = 32;
+
+fn say(page: &mut Page, form: usize, n: u64) {
+    say::form(page, &FORMS, form, n, 0, 0, 0);
+}
+
 // The name of the text, which is the argument at a place or standard input, and the line, as compilers say it.
 fn start(page: &mut Page, file: usize, line: u64) {
     if file == 0 {
-        say::text(page, b"standard input");
+        say(page, STANDARD_INPUT, 0);
     } else {
         words::show(page, file, say::NAME);
     }
-    say::print(page, b":%: error: ", &[line]);
+    say(page, ERROR, line);
 }
 
-// What was expected of the values of a key: only lists take runs.
+// What the values of a key are: only lists take runs, and only a word letters.
 fn values(page: &mut Page, key: u8) {
-    match key {
-        1 | 2 | 3 => say::text(
-            page,
-            b"whole decimal numbers, each N or N^K (N, K times), after ",
-        ),
-        6 => say::text(
-            page,
-            b"letters W, L, D or codes, each N or N^K (N, K times), after ",
-        ),
-        _ => say::text(page, b"whole decimal numbers after "),
+    if key == keys::WORD {
+        say(page, LETTERS, 0);
+    } else {
+        say(page, VALUE as usize, 0);
+    }
+    if vocabulary::key_of(key).list {
+        say(page, RUNS, 0);
     }
 }
 
-// The largest number of a key, and of a run's count.
+// The largest number of a key, and of a run's count where that is another one.
 fn most(page: &mut Page, key: u8) {
+    say(page, TOO_LARGE as usize, vocabulary::key_of(key).most);
+    if key == keys::WORD {
+        say(page, COUNTS, 0);
+    }
+}
+
+// What the values of a key are called, where they have names.
+fn called(page: &mut Page, key: u8) {
     match key {
-        6 => say::text(page, b"numbers up to 255, counts up to 4294967295, after "),
-        7 => say::text(page, b"numbers up to 255 after "),
-        9 => say::text(page, b"numbers up to 18446744073709551615 after "),
-        _ => say::text(page, b"numbers up to 4294967295 after "),
+        keys::ROAD => say(page, OF_ROAD, 0),
+        keys::PAIR => say(page, OF_PAIR, 0),
+        keys::DENSITY | keys::FLOW | keys::SPEED => say(page, OF_QUOTIENT, 0),
+        keys::ESTIMATES | keys::BITS => say(page, OF_ESTIMATES, 0),
+        _ => {}
     }
 }
 
 // How many values a key takes.
-fn arity(page: &mut Page, key: u8) {
-    match key {
-        0 => say::text(page, b"5 numbers (D p q J C) after "),
-        1 | 2 | 3 | 6 => say::text(page, b"1 or more values after "),
-        4 => say::text(page, b"2 numbers (upstream downstream) after "),
-        18 | 19 | 20 => say::text(page, b"2 numbers (A B, for A / B) after "),
-        5 | 7 | 16 => say::text(page, b"1 number after "),
-        8 | 9 => say::text(page, b"3 numbers (left own right) after "),
-        _ => say::text(page, b"nothing after "),
+fn count(page: &mut Page, key: u8) {
+    let known = vocabulary::key_of(key);
+    if known.list {
+        say(page, SOME, 0);
+    } else if known.values == 0 {
+        say(page, NOTHING, 0);
+    } else {
+        say(page, COUNT as usize, known.values as u64);
+        called(page, key);
     }
 }
 
 // What was expected of the values of a key, with its name.
 fn of_values(page: &mut Page, v: Verdict) {
-    if v.what == 3 {
+    if v.what == VALUE {
         values(page, v.key);
-    } else if v.what == 4 {
+    } else if v.what == TOO_LARGE {
         most(page, v.key);
     } else {
-        arity(page, v.key);
+        count(page, v.key);
     }
+    say(page, AFTER, 0);
     keys::name(page, v.key);
 }
 
-fn of_text(page: &mut Page, v: Verdict) {
+// What was expected of a line.
+fn of_line(page: &mut Page, v: Verdict) {
+    say(page, v.what as usize, 0);
+    if v.what == AGAIN {
+        keys::name(page, v.key);
+    }
+}
+
+fn expected(page: &mut Page, v: Verdict) {
     let what = v.what;
     match what {
-        1 => say::text(page, b"a line of at most 4096 bytes"),
-        2 => say::text(page, b"a keyword (--help has them)"),
-        6 => {
-            say::text(page, b"only one line of ");
-            keys::name(page, v.key);
-        }
-        7 => say::text(page, b"nothing after end"),
-        8 => say::text(page, b"a line of end; the text stops before it"),
-        9 => say::text(page, b"lines of keywords; there is nothing in the text"),
-        _ => of_values(page, v),
+        VALUE | TOO_LARGE | COUNT => of_values(page, v),
+        _ => of_line(page, v),
     }
 }
 
@@ -88,15 +193,11 @@ fn found(page: &mut Page, text: &[u8], v: Verdict) {
     let what = v.what;
     match what {
         2 | 3 | 4 | 7 => {
-            say::text(page, b", found ");
+            say(page, FOUND, 0);
             say::shown(page, pointing::word(text, v), say::WORD);
         }
-        5 => say::print(page, b", found % value~", &[pointing::values(text, v.line)]),
-        6 => say::print(
-            page,
-            b", found one before in line %",
-            &[scenario::line_of(text, v.key)],
-        ),
+        5 => say(page, FOUND_VALUES, pointing::values(text, v.line)),
+        6 => say(page, FOUND_BEFORE, scenario::line_of(text, v.key)),
         _ => {}
     }
 }
@@ -105,39 +206,43 @@ fn found(page: &mut Page, text: &[u8], v: Verdict) {
 pub fn wrong_text(file: usize, text: &[u8], v: Verdict) {
     let mut page = page::open(page::ERRORS);
     start(&mut page, file, v.line);
-    say::text(&mut page, b"expected ");
-    of_text(&mut page, v);
+    say(&mut page, EXPECTED, 0);
+    expected(&mut page, v);
     found(&mut page, text, v);
     page::put(&mut page, b'\n');
     page::sent(&mut page);
 }
 
-fn all_missing(page: &mut Page, text: &[u8], needed: &[u8]) {
+// The keys that an action needs and the text lacks.
+fn lacking(page: &mut Page, text: &[u8], action: usize) {
     let mut i = 0;
-    while i < needed.len() {
-        if !keys::is_given(text, needed[i]) {
+    while i < MOST {
+        let key = needs::lacking(text, action, i);
+        if key != keys::NONE {
             page::put(page, b' ');
-            keys::name(page, needed[i]);
+            keys::name(page, key);
         }
         i += 1;
     }
 }
 
 // What an action needs and does not have.
-pub fn needs(file: usize, text: &[u8], action: u8, needed: &[u8]) {
+pub fn needs(file: usize, text: &[u8], action: usize) {
+    let key = keys::action(action);
     let mut page = page::open(page::ERRORS);
-    start(&mut page, file, scenario::line_of(text, action));
-    keys::name(&mut page, action);
-    say::text(&mut page, b" needs");
-    all_missing(&mut page, text, needed);
+    start(&mut page, file, scenario::line_of(text, key));
+    keys::name(&mut page, key);
+    say(&mut page, NEEDS, 0);
+    lacking(&mut page, text, action);
     page::put(&mut page, b'\n');
     page::sent(&mut page);
 }
 
 // A message on the first line of a key.
-pub fn at(file: usize, text: &[u8], key: u8, message: &[u8]) {
+pub fn at(file: usize, text: &[u8], key: u8, form: usize) {
     let mut page = page::open(page::ERRORS);
     start(&mut page, file, scenario::line_of(text, key));
-    say::text(&mut page, message);
+    say(&mut page, form, 0);
+    page::put(&mut page, b'\n');
     page::sent(&mut page);
 }

@@ -2,32 +2,48 @@
 use super::errors;
 use arguments::options::Options;
 use request::keys;
+use request::keys::ACTIONS;
+use request::keys::NONE;
 use request::keys::is_given;
 use request::numbers;
 
-// Whether some key of a list is given, or some is missing.
-fn some(text: &[u8], list: &[u8], wanted: bool) -> bool {
-    let mut i = 0;
-    while i < list.len() {
-        if is_given(text, list[i]) == wanted {
-            return true;
-        }
-        i += 1;
-    }
-    false
-}
+// How many keys an action needs at most.
+pub const MOST: usize = 6;
 
-// Whether an action is not asked for, or has the keys that it needs.
-fn has(file: usize, text: &[u8], action: u8, needed: &[u8]) -> bool {
-    if !is_given(text, action) {
-        return true;
-    }
-    if !some(text, needed, false) {
-        return true;
-    }
-    errors::needs(file, text, action, needed);
-    false
-}
+// The keys that each action needs, in the order of the actions; NONE fills a row up. A candidate and a station need more, of
+// which they leave a choice.
+const NEEDS: [[u8; MOST]; ACTIONS] = [
+    [
+        keys::ROAD,
+        keys::CELLS,
+        keys::UPSTREAM,
+        keys::DOWNSTREAM,
+        keys::HORIZON,
+        NONE,
+    ],
+    [
+        keys::ROAD,
+        keys::CELLS,
+        keys::PAIR,
+        keys::HORIZON,
+        NONE,
+        NONE,
+    ],
+    [keys::ROAD, keys::CELLS, keys::PAIR, NONE, NONE, NONE],
+    [
+        keys::ROAD,
+        keys::CELLS,
+        keys::UPSTREAM,
+        keys::DOWNSTREAM,
+        keys::HORIZON,
+        keys::PAIR,
+    ],
+    [keys::ROAD, keys::CELLS, keys::PAIR, keys::WORD, NONE, NONE],
+    [keys::ROAD, keys::CELLS, keys::PAIR, keys::WORD, NONE, NONE],
+    [keys::ROAD, keys::MODE, NONE, NONE, NONE, NONE],
+    [NONE, NONE, NONE, NONE, NONE, NONE],
+    [keys::ROAD, NONE, NONE, NONE, NONE, NONE],
+];
 
 // Whether the horizon is given as 0: only a forecast of no step goes without ends.
 fn goes_nowhere(text: &[u8]) -> bool {
@@ -38,169 +54,106 @@ fn goes_nowhere(text: &[u8]) -> bool {
     }
 }
 
-fn forecast(file: usize, text: &[u8]) -> bool {
-    if goes_nowhere(text) {
-        return has(file, text, keys::FORECAST, &[keys::ROAD, keys::CELLS]);
+// Whether a text lacks a key that it needs.
+fn lacks(text: &[u8], key: u8) -> bool {
+    if key == NONE {
+        false
+    } else if is_given(text, key) {
+        false
+    } else if key == keys::UPSTREAM {
+        !goes_nowhere(text)
+    } else if key == keys::DOWNSTREAM {
+        !goes_nowhere(text)
+    } else {
+        true
     }
-    has(
-        file,
-        text,
-        keys::FORECAST,
-        &[
-            keys::ROAD,
-            keys::CELLS,
-            keys::UPSTREAM,
-            keys::DOWNSTREAM,
-            keys::HORIZON,
-        ],
-    )
 }
 
-// A forecast, and the pair of ends that its last state is read with.
-fn read_last(file: usize, text: &[u8]) -> bool {
-    if goes_nowhere(text) {
-        return has(
-            file,
-            text,
-            keys::READLAST,
-            &[keys::ROAD, keys::CELLS, keys::PAIR],
-        );
+// The i-th key that an action needs where the text lacks it, or NONE.
+pub fn lacking(text: &[u8], action: usize, i: usize) -> u8 {
+    if ACTIONS <= action {
+        return NONE;
     }
-    has(
-        file,
-        text,
-        keys::READLAST,
-        &[
-            keys::ROAD,
-            keys::CELLS,
-            keys::UPSTREAM,
-            keys::DOWNSTREAM,
-            keys::HORIZON,
-            keys::PAIR,
-        ],
-    )
+    if MOST <= i {
+        return NONE;
+    }
+    let key = NEEDS[action][i];
+    if lacks(text, key) { key } else { NONE }
+}
+
+// Whether the text has every key that an action needs.
+fn has_keys(text: &[u8], action: usize) -> bool {
+    let mut i = 0;
+    while i < MOST {
+        if lacking(text, action, i) != NONE {
+            return false;
+        }
+        i += 1;
+    }
+    true
 }
 
 // Exactly one of estimates and bits.
 fn estimates(file: usize, text: &[u8]) -> bool {
-    if !is_given(text, keys::CANDIDATE) {
-        return true;
-    }
     let whole = is_given(text, keys::ESTIMATES);
     if whole != is_given(text, keys::BITS) {
         return true;
     }
     if whole {
-        errors::at(
-            file,
-            text,
-            keys::CANDIDATE,
-            b"candidate takes estimates or bits, not both\n",
-        );
+        errors::at(file, text, keys::CANDIDATE, errors::BOTH_ESTIMATES);
     } else {
-        errors::at(
-            file,
-            text,
-            keys::CANDIDATE,
-            b"candidate needs estimates or bits\n",
-        );
+        errors::at(file, text, keys::CANDIDATE, errors::NO_ESTIMATES);
     }
     false
-}
-
-fn candidate(file: usize, text: &[u8]) -> bool {
-    if !has(file, text, keys::CANDIDATE, &[keys::ROAD, keys::MODE]) {
-        return false;
-    }
-    estimates(file, text)
 }
 
 // A density alone, a flow and a speed, or a speed alone.
 fn reading(file: usize, text: &[u8]) -> bool {
     if is_given(text, keys::DENSITY) {
-        if !some(text, &[keys::FLOW, keys::SPEED], true) {
-            return true;
+        if is_given(text, keys::FLOW) {
+            return mixed(file, text);
         }
-        errors::at(
-            file,
-            text,
-            keys::STATION,
-            b"station takes density, or flow and speed, or speed alone\n",
-        );
-        return false;
+        if is_given(text, keys::SPEED) {
+            return mixed(file, text);
+        }
+        return true;
     }
     if is_given(text, keys::SPEED) {
         return true;
     }
-    errors::at(
-        file,
-        text,
-        keys::STATION,
-        b"station needs density, or flow and speed, or speed\n",
-    );
+    errors::at(file, text, keys::STATION, errors::NO_READING);
     false
 }
 
-fn station(file: usize, text: &[u8]) -> bool {
-    if !is_given(text, keys::STATION) {
-        return true;
-    }
-    if !has(file, text, keys::STATION, &[keys::ROAD]) {
+fn mixed(file: usize, text: &[u8]) -> bool {
+    errors::at(file, text, keys::STATION, errors::MIXED_READING);
+    false
+}
+
+// Whether an action that is asked for has what it needs; it gets a message where it has not.
+fn has(file: usize, text: &[u8], action: usize) -> bool {
+    if !has_keys(text, action) {
+        errors::needs(file, text, action);
         return false;
     }
-    reading(file, text)
-}
-
-fn settle(file: usize, text: &[u8]) -> bool {
-    has(
-        file,
-        text,
-        keys::SETTLE,
-        &[keys::ROAD, keys::CELLS, keys::PAIR, keys::HORIZON],
-    )
-}
-
-fn read(file: usize, text: &[u8]) -> bool {
-    has(
-        file,
-        text,
-        keys::READ,
-        &[keys::ROAD, keys::CELLS, keys::PAIR],
-    )
-}
-
-// The fit test and the rows, which need the same.
-fn of_word(file: usize, text: &[u8], action: u8) -> bool {
-    has(
-        file,
-        text,
-        action,
-        &[keys::ROAD, keys::CELLS, keys::PAIR, keys::WORD],
-    )
+    let key = keys::action(action);
+    match key {
+        keys::CANDIDATE => estimates(file, text),
+        keys::STATION => reading(file, text),
+        _ => true,
+    }
 }
 
 // Whether the text asks for something.
 fn asks(file: usize, text: &[u8]) -> bool {
-    let actions = [
-        keys::FORECAST,
-        keys::SETTLE,
-        keys::READ,
-        keys::READLAST,
-        keys::FIT,
-        keys::ROWS,
-        keys::CANDIDATE,
-        keys::COUNT,
-        keys::STATION,
-    ];
-    if some(text, &actions, true) {
-        return true;
+    let mut i = 0;
+    while i < ACTIONS {
+        if is_given(text, keys::action(i)) {
+            return true;
+        }
+        i += 1;
     }
-    errors::at(
-        file,
-        text,
-        keys::END,
-        b"expected an action: forecast, settle, read, readlast, fit, rows, candidate, count or station\n",
-    );
+    errors::at(file, text, keys::END, errors::NO_ACTION);
     false
 }
 
@@ -212,47 +165,31 @@ fn picture(o: Options, text: &[u8]) -> bool {
     if is_given(text, keys::FORECAST) {
         return true;
     }
-    errors::at(o.file, text, keys::END, b"--picture needs forecast\n");
+    errors::at(o.file, text, keys::END, errors::NO_FORECAST);
     false
 }
 
-fn of_level_1(file: usize, text: &[u8]) -> bool {
-    if !forecast(file, text) {
-        return false;
+// Whether every action that the text asks for has what it needs; the first one that has not gets a message.
+fn all_have(file: usize, text: &[u8]) -> bool {
+    let mut i = 0;
+    while i < ACTIONS {
+        if is_given(text, keys::action(i)) {
+            if !has(file, text, i) {
+                return false;
+            }
+        }
+        i += 1;
     }
-    settle(file, text)
+    true
 }
 
-fn of_level_2(file: usize, text: &[u8]) -> bool {
-    if !read(file, text) {
-        return false;
-    }
-    if !read_last(file, text) {
-        return false;
-    }
-    if !of_word(file, text, keys::FIT) {
-        return false;
-    }
-    if !of_word(file, text, keys::ROWS) {
-        return false;
-    }
-    candidate(file, text)
-}
-
-// Whether every action has what it needs; the first one that has not gets a message.
+// Whether a text can be acted on: it asks for something, and for nothing that it does not give what it needs.
 pub fn met(o: Options, text: &[u8]) -> bool {
-    let file = o.file;
-    if !asks(file, text) {
+    if !asks(o.file, text) {
         return false;
     }
     if !picture(o, text) {
         return false;
     }
-    if !of_level_1(file, text) {
-        return false;
-    }
-    if !of_level_2(file, text) {
-        return false;
-    }
-    station(file, text)
+    all_have(o.file, text)
 }

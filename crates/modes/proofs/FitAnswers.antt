@@ -14,13 +14,14 @@ use Rattle.road.proofs.Calls.{Call, accepts-checked, refuses, accepts}
 use Rattle.checks.proofs.First.{all-below}
 use Rattle.checks.proofs.Rows.{cells-low, cells-high, cells-pass}
 use Rattle.scheme.specs.Word.{wordOf}
-use Rattle.modes.specs.Judging.{pairWordRows, fitShapeRows, fitRows, fitRefusal}
-use Rattle.modes.specs.Places.{PairWordPlaced}
+use Rattle.words.specs.Judging.{pairWordRows}
+use Rattle.modes.specs.Judging.{fitShapeRows, fitRows, fitRefusal}
+use Rattle.words.specs.Places.{PairWordPlaced}
 use Rattle.modes.specs.Fit.{firstMisfit, allHold, misfitFace, fitAnswer, meaning, fitMeaning, fitShapeRefusal, FitChecked, Compared, FitState, Fits, AnswersFit}
 use Rattle.modes.specs.declared.fitting.FitResult.{FitResult}
 use Rattle.modes.specs.declared.fitting.FitAnswer.{FitAnswer}
 use Rattle.modes.specs.declared.fitting.FitAnswer.the-variants.{Done, Refused}
-use Rattle.modes.proofs.WordRow.{word-long, word-legal, pair-word-passes, pair-word-placed}
+use Rattle.words.proofs.WordRow.{word-long, word-legal, pair-word-passes, pair-word-placed}
 use Rattle.modes.proofs.Misfits.{own-long, same-word, other-word}
 use Rattle.modes.proofs.Fitness.{fit-state}
 

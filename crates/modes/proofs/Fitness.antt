@@ -13,11 +13,11 @@ use Rattle.flux.proofs.Letters.{one-letter}
 use Rattle.scheme.specs.Word.{wordOf}
 use Rattle.scheme.proofs.Faces.{word-letter}
 use Rattle.scheme.proofs.Lists.{same-lists, lists-same}
-use Rattle.modes.specs.Words.{legal}
+use Rattle.words.specs.Words.{legal}
 use Rattle.modes.specs.Fit.{firstMisfit, allHold, misfitFace, Compared, LetteredWord, LowestMisfit, FitState}
 use Rattle.modes.specs.Reading.{OwnWord}
 use Rattle.modes.specs.declared.fitting.FitResult.{FitResult}
-use Rattle.modes.proofs.Legal.{word-legal}
+use Rattle.words.proofs.Legal.{word-legal}
 use Rattle.modes.proofs.Misfits.{misfit-bound, misfit-past, misfit-at, own-long, same-word}
 
 module _ (r : Road) (cells : List ℕ) (up down : ℕ) where

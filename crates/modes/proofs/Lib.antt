@@ -1,32 +1,15 @@
--- The theorems of Level 2: legal words and their count, modes and rows, the loops of the code, and the calls' answers.
-pub mod Legal
-pub mod LegalCount
-pub mod Occurs
-pub mod Integers
-pub mod Dot
-pub mod Table
-pub mod SevenModes
-pub mod Rows
-pub mod Sizes
+-- The theorems of fit test and reading: the loops of the code, the calls' answers, and that every legal word is read off a state.
 pub mod Seven
+pub mod ModeRange
 pub mod LetterLoop
 pub mod ModeLoop
 pub mod TallyLoop
-pub mod Offences
 pub mod Misfits
-pub mod WordRow
 pub mod Fitness
 pub mod FitAnswers
 pub mod ReadJudging
 pub mod TalliedModes
 pub mod ReadState
 pub mod ReadAnswers
+pub mod Occurs
 pub mod ReadOff
-pub mod RowLoop
-pub mod PredictState
-pub mod PredictAnswers
-pub mod Turning
-pub mod WordList
-pub mod CountAnswers
-pub mod Coefficients
-pub mod CandidateAnswers

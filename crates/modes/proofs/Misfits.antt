@@ -10,7 +10,7 @@ use lib.Dec.{eqb}
 use lib.ListN.{length, getD, drop, drop-of-length-le}
 use lib.Seq.{drop-cons, ext-getD}
 use borrow.Author.Tests.{eq-eqb, ne-eqb, eqb-true, eqb-false}
-use Rattle.road.specs.Choice.{pick}
+use Rattle.choice.specs.Choice.{pick}
 use Rattle.road.specs.declared.Road.{Road}
 use Rattle.flux.specs.Face.{letter}
 use Rattle.scheme.specs.Sums.{sameList, Below}
@@ -93,16 +93,16 @@ module _ (word : List ℕ) (i : ℕ) (h : i < length word) (s : ℕ) (ss : List 
   face-on e = ap (firstMisfit (s ∷ ss)) (drop-cons word i 0 h) ∙ misfit-on s (getD word i 0) ss (drop (suc i) word) e
 
 -- the comparison from face i on, with the density to its left, finds what the whole comparison finds
-pub record Comparing (r : Road) (up down : ℕ) (cells word : List ℕ) (left i : ℕ) : Type 0 where
+pub record WordCompared (r : Road) (up down : ℕ) (cells word : List ℕ) (left i : ℕ) : Type 0 where
   pub inside : i ≤ length cells
   pub below : left ≤ r .jam
   pub rest : i + firstMisfit (wordOf r left down (drop i cells)) (drop i word) ≡ firstMisfit (wordOf r up down cells) word
 
 module _ (r : Road) (up down : ℕ) (cells word : List ℕ) (long : length word ≡ length cells + 1) where
-  pub begins : up ≤ r .jam → Comparing r up down cells word up 0
+  pub begins : up ≤ r .jam → WordCompared r up down cells word up 0
   begins h = record { inside = zero-le; below = h; rest = omega arith }
 
-  module _ (left i : ℕ) (now : Comparing r up down cells word left i) (s : ℕ) where
+  module _ (left i : ℕ) (now : WordCompared r up down cells word left i) (s : ℕ) where
     -- a face between two cells, or at the upstream end
     module _ (h : i < length cells) (e : s ≡ letter r left (getD cells i 0)) where
       here : wordOf r left down (drop i cells) ≡ s ∷ wordOf r (getD cells i 0) down (drop (suc i) cells)
@@ -115,13 +115,13 @@ module _ (r : Road) (up down : ℕ) (cells word : List ℕ) (long : length word 
           let rest = rw here at (now .rest) in
           omega arith
 
-      turn : Below (r .jam) cells → s ≡ getD word i 0 → Comparing r up down cells word (getD cells i 0) (suc i)
+      turn : Below (r .jam) cells → s ≡ getD word i 0 → WordCompared r up down cells word (getD cells i 0) (suc i)
       turn below q =
           let on = face-on word i (omega arith) s (wordOf r (getD cells i 0) down (drop (suc i) cells)) q in
           let rest = rw here at (now .rest) in
           record { inside = h; below = below i; rest = omega arith }
 
-      pub turns : Below (r .jam) cells → s ≡ getD word i 0 → Comparing r up down cells word (getD cells i 0) (i + 1)
+      pub turns : Below (r .jam) cells → s ≡ getD word i 0 → WordCompared r up down cells word (getD cells i 0) (i + 1)
       turns = rw (add-one i) turn
 
     -- the face at the downstream end

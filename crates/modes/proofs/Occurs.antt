@@ -9,15 +9,16 @@ use native.Mathlib.Omega.{arith}
 use lib.Dec.{eqb}
 use lib.ListN.{length, getD}
 use borrow.Author.Tests.{ne-eqb}
-use Rattle.road.specs.Choice.{pick, or}
+use Rattle.choice.specs.Choice.{pick, or}
 use Rattle.road.specs.Judgement.{Accepted}
 use Rattle.road.specs.declared.Road.{Road}
 use Rattle.flux.specs.Face.{letterW, letterL, letterD, letter}
 use Rattle.flux.proofs.Letters.{full-W, full-D, free-L, free-D}
 use Rattle.scheme.specs.Word.{wordOf}
-use Rattle.modes.specs.Words.{legal, between, upstreamOf, downstreamOf, cellsOf}
-use Rattle.modes.specs.LegalWordsCounted.{Occurs}
-use Rattle.modes.proofs.Legal.{Legal, one, may-follow, legal-word}
+use Rattle.words.specs.Words.{legal}
+use Rattle.modes.specs.ReadOff.{between, upstreamOf, downstreamOf, cellsOf}
+use Rattle.modes.specs.ReadOff.{Occurs}
+use Rattle.words.proofs.Legal.{Legal, one, may-follow, legal-word}
 
 module _ (r : Road) (ok : Accepted r) where
   -- no density of the state is above jam

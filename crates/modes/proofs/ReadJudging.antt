@@ -7,7 +7,7 @@ use Rattle.road.specs.Ceilings.{cellsCeiling}
 use Rattle.road.specs.declared.Road.{Road}
 use Rattle.road.specs.declared.refusal.Refusal.{Refusal}
 use Rattle.road.proofs.Table.{_&_, none-holds}
-use Rattle.road.proofs.Choice.{or-left, or-right, neither}
+use Rattle.choice.proofs.Choice.{or-left, or-right, neither}
 use Rattle.road.proofs.Acceptance.{accepted-by, road-passes}
 use Rattle.road.proofs.Parts.{part-stands}
 use Rattle.road.proofs.Calls.{Call}

@@ -9,9 +9,10 @@ use Rattle.road.specs.Ceilings.{cellsCeiling}
 use Rattle.road.specs.Judgement.{Accepted}
 use Rattle.road.specs.declared.Road.{Road}
 use Rattle.road.proofs.Calls.{accepts-checked}
-use Rattle.modes.specs.Words.{legal, upstreamOf, downstreamOf, cellsOf}
+use Rattle.words.specs.Words.{legal}
+use Rattle.modes.specs.ReadOff.{upstreamOf, downstreamOf, cellsOf}
 use Rattle.modes.specs.Reading.{readAnswer, ReadChecked}
-use Rattle.modes.specs.LegalWordsCounted.{ReadOff}
+use Rattle.modes.specs.ReadOff.{ReadOff}
 use Rattle.modes.specs.declared.reading.ReadAnswer.the-variants.{Done}
 use Rattle.modes.specs.declared.reading.StateReading.{StateReading}
 use Rattle.modes.proofs.Occurs.{occurs}

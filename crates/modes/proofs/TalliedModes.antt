@@ -6,7 +6,7 @@ use native.Mathlib.Nat.{le-of-suc-le-suc, not-suc-le-zero}
 use native.Mathlib.Omega.{arith}
 use lib.Dec.{eqb}
 use lib.ListN.{length}
-use Rattle.road.specs.Choice.{pick}
+use Rattle.choice.specs.Choice.{pick}
 use Rattle.road.specs.Judgement.{Accepted}
 use Rattle.road.specs.declared.Road.{Road}
 use Rattle.scheme.specs.Sums.{sum}
@@ -14,8 +14,8 @@ use Rattle.scheme.specs.Word.{wordOf}
 use Rattle.scheme.proofs.Faces.{word-length}
 use Rattle.modes.specs.Modes.{modesOf}
 use Rattle.modes.specs.Reading.{countOf, countsOf, isQueued, queuedOf, Numbered}
-use Rattle.modes.proofs.Legal.{Known, legal-known, legal-word, word-legal}
-use Rattle.modes.proofs.Table.{mode-range}
+use Rattle.words.proofs.Legal.{Known, legal-known, legal-word, word-legal}
+use Rattle.modes.proofs.ModeRange.{mode-range}
 use Rattle.modes.proofs.Seven.{each-mode}
 
 -- a cell for each two neighbouring letters

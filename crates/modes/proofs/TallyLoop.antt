@@ -10,7 +10,7 @@ use lib.Dec.{eqb, eqb·suc-suc}
 use lib.ListN.{length, getD, drop, set, replicate, length-set, drop-of-length-le}
 use lib.Seq.{drop-cons, getD-set-same, getD-set-other, ext-getD}
 use borrow.Author.Tests.{eq-eqb, ne-eqb}
-use Rattle.road.specs.Choice.{pick}
+use Rattle.choice.specs.Choice.{pick}
 use Rattle.modes.specs.Reading.{countOf, countsOf, isQueued, queuedOf, tallied}
 use Rattle.modes.specs.declared.reading.Counts.{Counts}
 use Rattle.modes.proofs.Seven.{each-place}

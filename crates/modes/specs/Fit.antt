@@ -6,7 +6,7 @@ use mathlib.Core.List.{List, [], _∷_}
 use Prim.Native.Nat.{ℕ, suc, _+_, _≤_, _<_}
 use lib.Dec.{eqb}
 use lib.ListN.{length, getD}
-use Rattle.road.specs.Choice.{pick}
+use Rattle.choice.specs.Choice.{pick}
 use Rattle.road.specs.Ceilings.{cellsCeiling}
 use Rattle.road.specs.Table.{judge, refused, Judged}
 use Rattle.road.specs.Judgement.{Accepted}
@@ -16,9 +16,9 @@ use Rattle.flux.specs.Letters.{Lettered}
 use Rattle.scheme.specs.Advance.{padded}
 use Rattle.scheme.specs.Sums.{sameList, Below}
 use Rattle.scheme.specs.Word.{wordOf}
-use Rattle.modes.specs.Words.{legal}
+use Rattle.words.specs.Words.{legal}
 use Rattle.modes.specs.Judging.{fitShapeRows, fitRows, fitRefusal}
-use Rattle.modes.specs.Places.{PairWordPlaced}
+use Rattle.words.specs.Places.{PairWordPlaced}
 use Rattle.modes.specs.declared.fitting.FitResult.{FitResult}
 use Rattle.modes.specs.declared.fitting.FitAnswer.{FitAnswer}
 use Rattle.modes.specs.declared.fitting.FitAnswer.the-variants.{Done, Refused}

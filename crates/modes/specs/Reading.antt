@@ -5,7 +5,7 @@ use mathlib.Core.List.{List, [], _∷_}
 use Prim.Native.Nat.{ℕ, _+_, _≤_, _<_}
 use lib.Dec.{eqb}
 use lib.ListN.{length, getD}
-use Rattle.road.specs.Choice.{pick, or}
+use Rattle.choice.specs.Choice.{pick, or}
 use Rattle.road.specs.Table.{judge, refused, Judged}
 use Rattle.road.specs.Ceilings.{cellsCeiling}
 use Rattle.road.specs.Judgement.{Accepted}
@@ -16,7 +16,7 @@ use Rattle.flux.specs.Letters.{PublishedFlow}
 use Rattle.scheme.specs.Advance.{padded}
 use Rattle.scheme.specs.Sums.{sum, Below}
 use Rattle.scheme.specs.Word.{wordOf}
-use Rattle.modes.specs.Words.{legal}
+use Rattle.words.specs.Words.{legal}
 use Rattle.modes.specs.Modes.{modesOf}
 use Rattle.modes.specs.Judging.{readShapeRows, readRows, readRefusal}
 use Rattle.modes.specs.Fit.{allHold, LetteredWord, Fits, AnswersFit}

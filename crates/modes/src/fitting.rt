@@ -3,7 +3,6 @@ ghost use mathlib.Core.Path.{_≡_};
 ghost use Rattle.scheme.specs.Word.{wordOf};
 ghost use Rattle.modes.specs.Judging.{fitRefusal};
 ghost use Rattle.modes.specs.Fit.{firstMisfit, fitShapeRefusal, FitChecked, Compared, Fits};
-use super::words::or_pair_and_word;
 use road::Refusal;
 use road::Road;
 
@@ -36,7 +35,7 @@ fn judged(road: Road, cells: &[u32], up: u32, down: u32, word: &[u8]) -> Refusal
     if shape.number != 0 {
         return shape;
     }
-    or_pair_and_word(shape, road, cells, up, down, word)
+    words::or_pair_and_word(shape, road, cells, up, down, word)
 }
 
 // Internal: the lowest face whose letter is not the word's, or the number of faces where each is.

@@ -1,8 +1,8 @@
 // The mode of a cell, from the letters of its two faces.
 ghost use mathlib.Core.Path.{_≡_};
 ghost use Rattle.modes.specs.Modes.{modeOf};
-use super::words::L;
-use super::words::W;
+use flux::L;
+use flux::W;
 
 // Internal: the mode of a cell between the letters s and t, of a legal pair.
 pub fn mode_of(s: u8, t: u8) -> u8

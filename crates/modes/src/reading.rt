@@ -35,7 +35,7 @@ fn judged_shape(road: Road, cells: &[u32], letters: usize, modes: usize) -> Refu
     let bad_cells = checks::bad_cells(cells.len());
     let bad_letters = checks::bad_output(cells.len() + 1, letters);
     let bad_modes = checks::bad_output(cells.len(), modes);
-    let bad_output = road::either(bad_letters, bad_modes);
+    let bad_output = choice::either(bad_letters, bad_modes);
     road::judged(road)
         .or_if(bad_cells, 5, 0)
         .or_if(bad_output, 8, 0)

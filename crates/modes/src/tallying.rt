@@ -2,7 +2,7 @@
 ghost use mathlib.Core.Path.{_≡_};
 ghost use Prim.Native.Nat.{_≤_};
 ghost use lib.ListN.{length};
-ghost use Rattle.road.specs.Choice.{pick};
+ghost use Rattle.choice.specs.Choice.{pick};
 ghost use Rattle.road.specs.Ceilings.{cellsCeiling};
 ghost use Rattle.modes.specs.Reading.{Numbered, isQueued, tallied};
 use super::reading::Counts;
@@ -11,7 +11,7 @@ use super::reading::Counts;
 fn is_queued(mode: u8) -> bool
     ensures { λ b. ⌜ b ≡ isQueued mode ⌝ }
 {
-    road::either(mode == 1, road::either(mode == 2, mode == 3))
+    choice::either(mode == 1, choice::either(mode == 2, mode == 3))
 }
 
 // Internal: 1 for a queued cell's mode, 0 for another.

@@ -4,7 +4,7 @@ use mathlib.Core.List.{List, [], _∷_}
 use Prim.Native.Nat.{ℕ, _+_, _-_, _*_, _/_, _%_, min, max}
 use lib.Dec.{ltb, eqb}
 use lib.ListN.{getD}
-use Rattle.road.specs.Choice.{pick}
+use Rattle.choice.specs.Choice.{pick}
 use Rattle.picture.specs.Colours.{blueOf, greenOf, redOf}
 
 -- how many pixels each of `count` takes: target / count, but at least 1 and at most 32

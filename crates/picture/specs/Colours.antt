@@ -2,7 +2,7 @@
 use mathlib.Core.Bool.{Bool}
 use Prim.Native.Nat.{ℕ, _-_, _*_, _/_, min}
 use lib.Dec.{ltb}
-use Rattle.road.specs.Choice.{pick}
+use Rattle.choice.specs.Choice.{pick}
 
 -- 255 × density / jam, rounded down, below jam; 255 at jam and above
 abbrev pub shadeOf : ℕ → ℕ → ℕ

@@ -80,7 +80,9 @@ pub fn print(page: &mut Page, lines: bool, name: &[u8], x: f64) {
     } else {
         say::text(page, b"  bits of the ");
         say::text(page, name);
-        say::print(page, b" % (hexadecimal ", &[bits]);
+        page::put(page, b' ');
+        say::number(page, bits);
+        say::text(page, b" (hexadecimal ");
         hexadecimal(page, bits);
         page::put(page, b')');
     }

@@ -43,22 +43,45 @@ fn plural(page: &mut Page, numbers: &[u64], next: usize) {
 fn piece(page: &mut Page, b: u8, numbers: &[u64], next: usize) -> usize {
     if b == b'%' {
         number(page, at(numbers, next));
-        after(numbers, next)
-    } else if b == b'~' {
+        return after(numbers, next);
+    }
+    if b == b'~' {
         plural(page, numbers, next);
-        next
+    } else if b == b'|' {
+        page::put(page, b'\n');
     } else {
         page::put(page, b);
-        next
     }
+    next
 }
 
-// A form, in which % stands for the next number and ~ for an s unless that number was 1.
-pub fn print(page: &mut Page, form: &[u8], numbers: &[u64]) {
-    let mut next = 0;
+// Where a line of a text starts, counted from 0; the text's end where it has no such line.
+fn line_start(text: &[u8], line: usize) -> usize {
+    let mut left = line;
     let mut i = 0;
-    while i < form.len() {
-        next = piece(page, form[i], numbers, next);
+    while i < text.len() {
+        if left == 0 {
+            return i;
+        }
+        if text[i] == b'\n' {
+            left -= 1;
+        }
+        i += 1;
+    }
+    i
+}
+
+// A form, which is a line of a text of forms: % stands for the next number, ~ for an s unless that number was 1, | for the
+// end of a line. (A text is checked once, where it stands, and a call with numbers alone is checked quickly.)
+pub fn form(page: &mut Page, forms: &[u8], line: usize, a: u64, b: u64, c: u64, d: u64) {
+    let numbers = [a, b, c, d];
+    let mut next = 0;
+    let mut i = line_start(forms, line);
+    while i < forms.len() {
+        if forms[i] == b'\n' {
+            return;
+        }
+        next = piece(page, forms[i], &numbers, next);
         i += 1;
     }
 }

@@ -1,8 +1,9 @@
 // The candidate prediction.
-use modes::CandidateAnswer;
+use super::forms;
+use super::forms::say;
+use candidate::CandidateAnswer;
 use printing::doubles;
 use printing::page::Page;
-use printing::say;
 use request::keys;
 use request::numbers;
 use request::refusals;
@@ -47,15 +48,15 @@ fn estimated(text: &[u8]) -> Estimates {
 
 fn report(page: &mut Page, lines: bool, mode: u8, x: f64) {
     if lines {
-        say::text(page, b"done candidate ");
+        say(page, forms::CANDIDATE_LINE, 0, 0);
     } else {
-        say::print(page, b"candidate of mode %\n", &[mode as u64]);
+        say(page, forms::CANDIDATE, mode as u64, 0);
     }
     doubles::print(page, lines, b"numerator", x);
 }
 
 fn made(page: &mut Page, lines: bool, road: Road, mode: u8, e: Estimates) -> u8 {
-    match modes::candidate(road, mode, e.left, e.own, e.right) {
+    match candidate::candidate(road, mode, e.left, e.own, e.right) {
         CandidateAnswer::Done(p) => {
             report(page, lines, mode, p.numerator);
             status::DONE

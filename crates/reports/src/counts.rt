@@ -1,7 +1,8 @@
 // The word count.
-use modes::CountAnswer;
+use super::forms;
+use super::forms::say;
+use counting::CountAnswer;
 use printing::page::Page;
-use printing::say;
 use request::keys;
 use request::numbers;
 use request::refusals;
@@ -9,18 +10,17 @@ use request::refusals::Input;
 use request::status;
 
 fn report(page: &mut Page, lines: bool, cells: u32, words: u64) {
-    let told = [cells as u64, words];
     if lines {
-        say::print(page, b"done count % %\n", &told);
+        say(page, forms::COUNT_LINE, cells as u64, words);
     } else {
-        say::print(page, b"count for % cell~\n  legal words %\n", &told);
+        say(page, forms::COUNT, cells as u64, words);
     }
 }
 
 // The word count of a text; the status.
 pub fn act(page: &mut Page, lines: bool, text: &[u8]) -> u8 {
     let cells = numbers::one(text, keys::COUNT);
-    match modes::count(cells) {
+    match counting::count(cells) {
         CountAnswer::Done(c) => {
             report(page, lines, cells, c.words);
             status::DONE

@@ -1,4 +1,4 @@
-// The keys of a scenario by their codes, and their names.
+// The keys of a scenario by their codes, their names, and the actions among them.
 use printing::page;
 use printing::page::Page;
 
@@ -48,6 +48,29 @@ pub const STATION: u8 = 21;
 
 pub const READLAST: u8 = 22;
 
+// What stands where no key does.
+pub const NONE: u8 = 255;
+
+// The actions, in the order in which they are done.
+pub const ACTIONS: usize = 9;
+
+const ORDER: [u8; ACTIONS] = [
+    FORECAST,
+    SETTLE,
+    READ,
+    READLAST,
+    FIT,
+    ROWS,
+    CANDIDATE,
+    COUNT,
+    STATION,
+];
+
+// The key of the i-th action, from 0.
+pub fn action(i: usize) -> u8 {
+    if i < ACTIONS { ORDER[i] } else { NONE }
+}
+
 // A keyword without the blanks that pad it.
 fn unpadded(page: &mut Page, name: &[u8]) {
     let mut i = 0;
@@ -61,7 +84,8 @@ fn unpadded(page: &mut Page, name: &[u8]) {
 
 // A key's name.
 pub fn name(page: &mut Page, key: u8) {
-    unpadded(page, &scenario::name_of(key));
+    let name = vocabulary::key_of(key).name;
+    unpadded(page, &name);
 }
 
 // Whether a text has a line of a key.

@@ -39,39 +39,73 @@ impl Input {
     }
 }
 
-fn of_road(page: &mut Page, number: u32) {
-    match number {
-        1 => say::print(
-            page,
-            b"the divisor D is not from 1 to %",
-            &[Road::DIVISOR as u64],
-        ),
-        2 => say::text(page, b"the speed p or q is not from 1 to D"),
-        3 => say::print(
-            page,
-            b"the jam density J is not from 2 to %, or the critical density C not from 1 to J - 1",
-            &[Road::JAM as u64],
-        ),
-        _ => say::text(page, b"p times C differs from q times (J - C)"),
-    }
+// The meaning of each number, in the line of that number; behind them what is said in the place or in front of one.
+const MEANINGS: [u8; 1124] = *b"
+the divisor D is not from 1 to %
+the speed p or q is not from 1 to D
+the jam density J is not from 2 to %, or the critical density C not from 1 to J - 1
+p times C differs from q times (J - C)
+the number of cells is not from 1 to %
+the horizon is above % steps
+
+an output has another length than the call fills
+cell % is above the jam density
+the upstream end
+the downstream end
+face % of the word has an unknown letter, or one that may not follow the letter before
+the mode is not from 1 to 7
+ estimate is not a number, or not from 0 to the jam density
+words are counted for at most % cells
+a station's number is not a number, below 0 or infinite, or a speed beside a flow is 0
+a station's lone speed times D, rounded, is not below p: no single density
+a station's estimate is not from 0 to the jam density
+the upstream list
+the downstream list
+ has more than % ends, the horizon is % step~
+ has % end~, the horizon is % step~
+ of step % (from 0) is above the jam density
+ of pair is above the jam density
+the word does not have one letter more than there are cells
+the left
+the own
+the right
+refused % % 
+|  refused % %: 
+";
+
+const ESTIMATE: usize = 14;
+
+const UPSTREAM: usize = 19;
+
+const DOWNSTREAM: usize = 20;
+
+const MORE_ENDS: usize = 21;
+
+const OTHER_ENDS: usize = 22;
+
+const OF_STEP: usize = 23;
+
+const OF_PAIR: usize = 24;
+
+const OTHER_LENGTH: usize = 25;
+
+const LEFT: usize = 26;
+
+const LINE: usize = 29;
+
+const REFUSED: usize = 30;
+
+fn say(page: &mut Page, form: usize, a: u64, b: u64) {
+    say::form(page, &MEANINGS, form, a, b, 0, 0);
 }
 
 // A list of ends that has not one for each step. One that is too long was clipped, to one more than the most steps.
-fn of_ends(page: &mut Page, name: &[u8], ends: usize, horizon: u32) {
-    say::text(page, b"the ");
-    say::text(page, name);
+fn of_list(page: &mut Page, list: usize, ends: usize, horizon: u32) {
+    say(page, list, 0, 0);
     if (Road::HORIZON as usize) < ends {
-        say::print(
-            page,
-            b" list has more than % ends, the horizon is % step~",
-            &[Road::HORIZON as u64, horizon as u64],
-        );
+        say(page, MORE_ENDS, Road::HORIZON as u64, horizon as u64);
     } else {
-        say::print(
-            page,
-            b" list has % end~, the horizon is % step~",
-            &[ends as u64, horizon as u64],
-        );
+        say(page, OTHER_ENDS, ends as u64, horizon as u64);
     }
 }
 
@@ -79,132 +113,79 @@ fn of_ends(page: &mut Page, name: &[u8], ends: usize, horizon: u32) {
 fn of_lengths(page: &mut Page, input: Input) {
     let horizon = input.horizon as usize;
     if input.upstream != horizon {
-        of_ends(page, b"upstream", input.upstream, input.horizon);
+        of_list(page, UPSTREAM, input.upstream, input.horizon);
         if input.downstream != horizon {
-            say::text(page, b"; ");
+            page::put(page, b';');
+            page::put(page, b' ');
         }
     }
     if input.downstream != horizon {
-        of_ends(page, b"downstream", input.downstream, input.horizon);
+        of_list(page, DOWNSTREAM, input.downstream, input.horizon);
     }
 }
 
-fn of_lists(page: &mut Page, number: u32, input: Input) {
-    match number {
-        5 => say::print(
-            page,
-            b"the number of cells is not from 1 to %",
-            &[Road::CELLS as u64],
-        ),
-        6 => say::print(
-            page,
-            b"the horizon is above % steps",
-            &[Road::HORIZON as u64],
-        ),
-        7 => of_lengths(page, input),
-        _ => say::text(page, b"an output has another length than the call fills"),
-    }
-}
-
-// The step of an end, where each step has its own.
-fn of_step(page: &mut Page, by_step: bool, place: u32) {
+// An end, with its step where each step has its own.
+fn of_end(page: &mut Page, f: Refusal, by_step: bool) {
+    say(page, f.number as usize, 0, 0);
     if by_step {
-        say::print(page, b" of step % (from 0)", &[place as u64]);
+        say(page, OF_STEP, f.place as u64, 0);
     } else {
-        say::text(page, b" of pair");
+        say(page, OF_PAIR, 0, 0);
     }
 }
 
-fn of_values(page: &mut Page, f: Refusal, by_step: bool) {
-    if f.number == 9 {
-        say::print(page, b"cell %", &[f.place as u64]);
-    } else if f.number == 10 {
-        say::text(page, b"the upstream end");
-        of_step(page, by_step, f.place);
+// A word: a place beyond the last face says that the length is wrong.
+fn of_word(page: &mut Page, f: Refusal, cells: usize) {
+    if cells < f.place as usize {
+        say(page, OTHER_LENGTH, 0, 0);
     } else {
-        say::text(page, b"the downstream end");
-        of_step(page, by_step, f.place);
-    }
-    say::text(page, b" is above the jam density");
-}
-
-// A place beyond the last face says that the length is wrong.
-fn of_word(page: &mut Page, place: u32, cells: usize) {
-    if cells < place as usize {
-        say::text(
-            page,
-            b"the word does not have one letter more than there are cells",
-        );
-    } else {
-        say::print(
-            page,
-            b"face % of the word has an unknown letter, or one that may not follow the letter before",
-            &[place as u64],
-        );
+        say(page, f.number as usize, f.place as u64, 0);
     }
 }
 
+// An estimate, of which the place says which it is: 1, 2 or 3.
 fn of_estimate(page: &mut Page, place: u32) {
     match place {
-        1 => say::text(page, b"the left"),
-        2 => say::text(page, b"the own"),
-        _ => say::text(page, b"the right"),
+        1 => say(page, LEFT, 0, 0),
+        2 => say(page, LEFT + 1, 0, 0),
+        _ => say(page, LEFT + 2, 0, 0),
     }
-    say::text(
-        page,
-        b" estimate is not a number, or not from 0 to the jam density",
-    );
+    say(page, ESTIMATE, 0, 0);
 }
 
-// A candidate, a word count, a station's reading or what comes of it.
-fn of_rest(page: &mut Page, f: Refusal) {
+// The number that a meaning tells besides: the ceiling, or the place.
+fn told(f: Refusal) -> u64 {
     let number = f.number;
     match number {
-        13 => say::text(page, b"the mode is not from 1 to 7"),
-        14 => of_estimate(page, f.place),
-        15 => say::print(
-            page,
-            b"words are counted for at most % cells",
-            &[Road::COUNT as u64],
-        ),
-        16 => say::text(
-            page,
-            b"a station's number is not a number, below 0 or infinite, or a speed beside a flow is 0",
-        ),
-        17 => say::text(
-            page,
-            b"a station's lone speed times D, rounded, is not below p: no single density",
-        ),
-        _ => say::text(
-            page,
-            b"a station's estimate is not from 0 to the jam density",
-        ),
+        1 => Road::DIVISOR as u64,
+        3 => Road::JAM as u64,
+        5 => Road::CELLS as u64,
+        6 => Road::HORIZON as u64,
+        9 => f.place as u64,
+        15 => Road::COUNT as u64,
+        _ => 0,
     }
 }
 
 fn meaning(page: &mut Page, f: Refusal, input: Input) {
-    if f.number < 5 {
-        of_road(page, f.number);
-    } else if f.number < 9 {
-        of_lists(page, f.number, input);
-    } else if f.number < 12 {
-        of_values(page, f, input.by_step);
-    } else if f.number == 12 {
-        of_word(page, f.place, input.cells);
-    } else {
-        of_rest(page, f);
+    let number = f.number;
+    match number {
+        7 => of_lengths(page, input),
+        10 | 11 => of_end(page, f, input.by_step),
+        12 => of_word(page, f, input.cells),
+        14 => of_estimate(page, f.place),
+        _ => say(page, number as usize, told(f), 0),
     }
 }
 
 // The refusal of an action.
 pub fn print(page: &mut Page, lines: bool, action: u8, f: Refusal, input: Input) {
-    let told = [f.number as u64, f.place as u64];
     if lines {
-        say::print(page, b"refused % % ", &told);
+        say(page, LINE, f.number as u64, f.place as u64);
         keys::name(page, action);
     } else {
         keys::name(page, action);
-        say::print(page, b"\n  refused % %: ", &told);
+        say(page, REFUSED, f.number as u64, f.place as u64);
         meaning(page, f, input);
     }
     page::put(page, b'\n');

@@ -10,7 +10,8 @@ use Rattle.road.specs.Table.{passed}
 use Rattle.road.specs.Judgement.{outside, badDivisor, badSpeeds, badDensities, unbalanced, roadRows, roadRefusal, Accepted}
 use Rattle.road.specs.declared.Road.{Road}
 use Rattle.road.proofs.Table.{none-holds, _&_, all-pass}
-use Rattle.road.proofs.Choice.{or-left, or-right, neither, from-low, to-high, inside}
+use Rattle.choice.proofs.Choice.{or-left, or-right, neither}
+use Rattle.road.proofs.Ranges.{from-low, to-high, inside}
 
 -- a road of which none of its four rows holds is accepted
 pub accepted-by : (r : Road) → badDivisor r ≡ false → badSpeeds r ≡ false → badDensities r ≡ false → unbalanced r ≡ false → Accepted r

@@ -1,6 +1,6 @@
 -- The road's theorems: the rule of the refusal table, and what an accepted road is.
 pub mod Product
-pub mod Choice
+pub mod Ranges
 pub mod Table
 pub mod Acceptance
 pub mod Parts

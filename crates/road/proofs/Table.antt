@@ -9,10 +9,10 @@ use native.Mathlib.Omega.{arith}
 use lib.Dec.{T, eqb, eqb→eq, ltb, ltb→lt}
 use lib.ListN.{length}
 use borrow.Author.Tests.{eq-eqb, ne-eqb}
-use Rattle.road.specs.Choice.{pick, both}
+use Rattle.choice.specs.Choice.{pick, both}
 use Rattle.road.specs.Table.{refused, passed, orIf, Row, row, judgeBelow, judge, lacks, apart, rising, rowAt, Applies, First, Lowest}
 use Rattle.road.specs.declared.refusal.Refusal.{Refusal}
-use Rattle.road.proofs.Choice.{both-left, both-right}
+use Rattle.choice.proofs.Choice.{both-left, both-right}
 
 -- one row of code: the row above, the condition and the place as they were shown to be
 pub next-row : (n : ℕ) {f f′ : Refusal} {c c′ : Bool} {p p′ : ℕ} → f ≡ f′ → c ≡ c′ → p ≡ p′ → orIf f c n p ≡ orIf f′ c′ n p′

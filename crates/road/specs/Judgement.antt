@@ -4,7 +4,7 @@ use mathlib.Core.Bool.{Bool, not}
 use mathlib.Core.List.{List, [], _∷_}
 use Prim.Native.Nat.{ℕ, _-_, _*_, _≤_, _<_}
 use lib.Dec.{eqb, ltb}
-use Rattle.road.specs.Choice.{or}
+use Rattle.choice.specs.Choice.{or}
 use Rattle.road.specs.Ceilings.{divisorCeiling, jamCeiling}
 use Rattle.road.specs.Table.{Row, row, judge}
 use Rattle.road.specs.declared.Road.{Road}

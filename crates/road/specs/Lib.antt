@@ -1,5 +1,4 @@
--- The road's definitions: ceilings, choices, the form of the refusal table, and the judgement.
+-- The road's definitions: ceilings, the form of the refusal table, and the judgement.
 pub mod Ceilings
-pub mod Choice
 pub mod Table
 pub mod Judgement

@@ -5,7 +5,7 @@ use mathlib.Core.List.{List, [], _∷_}
 use Prim.Native.Nat.{ℕ, _≤_, _<_}
 use lib.Dec.{T, eqb, ltb}
 use lib.ListN.{length, getD}
-use Rattle.road.specs.Choice.{pick, both}
+use Rattle.choice.specs.Choice.{pick, both}
 use Rattle.road.specs.declared.refusal.Refusal.{Refusal}
 
 -- a refusal with its number and place

@@ -1,7 +1,6 @@
 // The judgement of a road: numbers 1 to 4 of the refusal table, lowest first, for any five 32-bit numbers.
 ghost use mathlib.Core.Path.{_≡_};
 ghost use Prim.Native.Nat.{_-_};
-ghost use Rattle.road.specs.Choice.{or};
 ghost use Rattle.road.specs.Judgement.{outside, badDivisor, badSpeeds, badDensities, unbalanced, roadRefusal};
 use super::Road;
 use super::refusal::Refusal;
@@ -10,14 +9,7 @@ use super::refusal::Refusal;
 fn is_outside(low: u32, high: u32, x: u32) -> bool
     ensures { λ r. ⌜ r ≡ outside low high x ⌝ }
 {
-    either(x < low, high < x)
-}
-
-// Internal: one test or the other.
-pub fn either(a: bool, b: bool) -> bool
-    ensures { λ r. ⌜ r ≡ or a b ⌝ }
-{
-    if a { true } else { b }
+    choice::either(x < low, high < x)
 }
 
 // Internal: a - b, or 0 where b is the greater.
@@ -36,7 +28,7 @@ fn bad_divisor(r: Road) -> bool
 fn bad_speeds(r: Road) -> bool
     ensures { λ b. ⌜ b ≡ badSpeeds r ⌝ }
 {
-    either(
+    choice::either(
         is_outside(1, r.divisor, r.free),
         is_outside(1, r.divisor, r.wave),
     )
@@ -45,7 +37,7 @@ fn bad_speeds(r: Road) -> bool
 fn bad_densities(r: Road) -> bool
     ensures { λ b. ⌜ b ≡ badDensities r ⌝ }
 {
-    either(
+    choice::either(
         is_outside(2, Road::JAM, r.jam),
         is_outside(1, less(r.jam, 1), r.critical),
     )

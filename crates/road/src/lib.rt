@@ -8,7 +8,6 @@ pub use ceilings::count_ceiling;
 pub use ceilings::divisor_ceiling;
 pub use ceilings::horizon_ceiling;
 pub use ceilings::jam_ceiling;
-pub use judgement::either;
 pub use judgement::judged;
 pub use refusal::Refusal;
 

@@ -1,132 +1,145 @@
 // Forecasts: the worked cases, a refusal of each number with its place, and the edges with the refusal one beyond.
-use super::buffers;
-use super::roads;
-use super::say;
+use super::forms;
 use forecast::ForecastAnswer;
+use printing::page;
+use printing::page::Page;
 use road::Road;
+use worked::few;
+use worked::few::CELLS;
+use worked::few::EMPTY;
+use worked::few::NONE;
+use worked::few::ONE_100;
+use worked::lists;
+use worked::print;
+use worked::roads;
+use worked::roads::A;
 
 // One forecast and what it left in the output.
 fn show(
-    name: &[u8],
-    r: Road,
+    page: &mut Page,
+    line: usize,
+    road: Road,
     cells: &[u32],
     ups: &[u32],
     downs: &[u32],
     horizon: u32,
     out: &mut [u32],
 ) {
-    say::text(name);
-    match forecast::forecast(r, cells, ups, downs, horizon, out) {
+    forms::say(page, line, 0, 0);
+    match forecast::forecast(road, cells, ups, downs, horizon, out) {
         ForecastAnswer::Done(t) => {
-            say::text(b": entered ");
-            say::number(t.entered);
-            say::text(b", left ");
-            say::number(t.left);
+            forms::say(page, forms::TOTALS, t.entered, t.left);
         }
         ForecastAnswer::Refused(f) => {
-            say::text(b": ");
-            say::refusal(f);
+            print::refusal(page, f);
         }
     }
-    say::text(b", output");
-    say::cells(out);
-    say::text(b"\n");
+    forms::say(page, forms::OUTPUT, 0, 0);
+    print::cells(page, out);
+    page::put(page, b'\n');
 }
 
-// The worked cases.
-pub fn worked() {
-    let a = roads::road_a();
-    let mut one = [7u32; 1];
-    show(b"one cell 101, ends 0", a, &[101], &[0], &[0], 1, &mut one);
-    let mut three = [7u32; 3];
-    show(
-        b"cells 300 150 700 between 100 and 0",
-        a,
-        &[300, 150, 700],
-        &[100],
-        &[0],
-        1,
-        &mut three,
-    );
-}
+// A road, cells, upstream and downstream ends, the steps, and the places of the output.
+struct Case(u8, u8, u8, u8, u32, usize);
 
-// Road A with some of its numbers changed.
-fn refused_road(name: &[u8], r: Road) {
+const COUNT: usize = 15;
+
+const CASES: [Case; COUNT] = [
+    Case(A, few::ONE_101, EMPTY, EMPTY, 1, 1),
+    Case(A, CELLS, ONE_100, EMPTY, 1, 3),
+    Case(roads::D_0, CELLS, ONE_100, EMPTY, 1, 3),
+    Case(roads::P_6, CELLS, ONE_100, EMPTY, 1, 3),
+    Case(roads::C_1000, CELLS, ONE_100, EMPTY, 1, 3),
+    Case(roads::C_201, CELLS, ONE_100, EMPTY, 1, 3),
+    Case(A, NONE, ONE_100, EMPTY, 1, 3),
+    Case(A, CELLS, ONE_100, EMPTY, 4097, 3),
+    Case(A, CELLS, few::TWO_100, EMPTY, 1, 3),
+    Case(A, CELLS, ONE_100, NONE, 1, 3),
+    Case(A, CELLS, ONE_100, EMPTY, 1, 2),
+    Case(A, few::ABOVE_AT_2, ONE_100, EMPTY, 1, 2),
+    Case(A, few::ABOVE_AT_2_AND_3, ONE_100, EMPTY, 1, 3),
+    Case(A, CELLS, few::FULL_ABOVE, few::ABOVE_EMPTY, 2, 3),
+    Case(A, CELLS, few::FULL_FULL, few::ABOVE_ABOVE, 2, 3),
+];
+
+// A forecast of short lists, with an output of 7s.
+fn short(
+    page: &mut Page,
+    line: usize,
+    road: u8,
+    cells: u8,
+    ups: u8,
+    downs: u8,
+    t: u32,
+    places: usize,
+) {
+    let xs = few::list(cells);
+    let us = few::list(ups);
+    let ds = few::list(downs);
     let mut out = [7u32; 3];
-    show(name, r, &[300, 150, 700], &[100], &[0], 1, &mut out);
+    let n = few::count(cells);
+    let u = few::count(ups);
+    let d = few::count(downs);
+    if places <= 3 {
+        show(
+            page,
+            line,
+            roads::road(road),
+            &xs[..n],
+            &us[..u],
+            &ds[..d],
+            t,
+            &mut out[..places],
+        );
+    }
 }
 
-// Road A with other ends, one step.
-fn refused_ends(name: &[u8], ups: &[u32], downs: &[u32], horizon: u32) {
-    let mut out = [7u32; 3];
-    show(
-        name,
-        roads::road_a(),
-        &[300, 150, 700],
-        ups,
-        downs,
-        horizon,
-        &mut out,
-    );
+// The worked cases, and a refusal for each number of a forecast.
+pub fn cases(page: &mut Page) {
+    let mut i = 0;
+    while i < COUNT {
+        let case = CASES[i];
+        short(
+            page,
+            forms::FORECASTS + i,
+            case.0,
+            case.1,
+            case.2,
+            case.3,
+            case.4,
+            case.5,
+        );
+        i += 1;
+    }
 }
 
-// Road A with other cells, and an output that may be too short.
-fn refused_cells(name: &[u8], cells: &[u32]) {
-    let mut out = [7u32; 3];
-    show(name, roads::road_a(), cells, &[100], &[0], 1, &mut out);
-}
+// A road, the density of all cells, of all upstream and of all downstream ends, how many cells, and how many steps.
+struct Edge(u8, u32, u32, u32, usize, usize);
 
-fn refused_output(name: &[u8], cells: &[u32]) {
-    let mut out = [7u32; 2];
-    show(name, roads::road_a(), cells, &[100], &[0], 1, &mut out);
-}
+const EDGE_COUNT: usize = 7;
 
-// A refusal for each number of a forecast.
-pub fn refused() {
-    refused_road(b"D 0", roads::road(0, 4, 1, 1000, 200));
-    refused_road(b"p 6", roads::road(5, 6, 1, 1000, 200));
-    refused_road(b"C 1000", roads::road(5, 4, 1, 1000, 1000));
-    refused_road(b"C 201", roads::road(5, 4, 1, 1000, 201));
-    refused_lists();
-    refused_outputs();
-    refused_values();
-}
-
-fn refused_lists() {
-    let none = [0u32; 1];
-    refused_cells(b"no cells", &none[..0]);
-    refused_ends(b"T 4097 with ends of 1", &[100], &[0], 4097);
-    refused_ends(b"two upstream ends for T 1", &[100, 100], &[0], 1);
-    refused_ends(b"no downstream end for T 1", &[100], &none[..0], 1);
-}
-
-fn refused_outputs() {
-    refused_output(b"output of 2 for 3 cells", &[300, 150, 700]);
-    refused_output(b"output of 2 and a cell above J", &[300, 1001, 700]);
-}
-
-fn refused_values() {
-    refused_cells(b"cells 2 and 3 above J", &[1000, 1001, 4_294_967_295]);
-    refused_ends(b"upstream above J at step 1", &[1000, 1001], &[1001, 0], 2);
-    refused_ends(
-        b"downstream above J at step 0",
-        &[1000, 1000],
-        &[1001, 1001],
-        2,
-    );
-}
+const EDGES: [Edge; EDGE_COUNT] = [
+    Edge(A, 300, 1000, 0, 3, 0),
+    Edge(A, 1000, 1000, 0, 1, 4096),
+    Edge(A, 1000, 0, 0, 256, 4096),
+    Edge(A, 1000, 1000, 1000, 256, 4096),
+    Edge(roads::WIDEST, 1_000_000, 1_000_000, 0, 256, 4096),
+    Edge(A, 300, 1000, 0, 257, 1),
+    Edge(A, 300, 1000, 0, 1, 4097),
+];
 
 // A forecast of n cells of one density, with ends of one density each, over t steps.
-fn edge(name: &[u8], r: Road, cell: u32, up: u32, down: u32, n: usize, t: usize) {
-    let cells = buffers::cells(cell);
-    let ups = buffers::ends(up);
-    let downs = buffers::ends(down);
-    let mut out = buffers::cells(7);
-    if n <= buffers::CELLS {
-        if t <= buffers::ENDS {
+fn long(page: &mut Page, line: usize, road: u8, cell: u32, up: u32, down: u32, n: usize, t: usize) {
+    let cells = lists::cells(cell);
+    let ups = lists::ends(up);
+    let downs = lists::ends(down);
+    let mut out = lists::cells(7);
+    if n <= lists::CELLS {
+        if t <= lists::ENDS {
             show(
-                name,
-                r,
+                page,
+                line,
+                roads::road(road),
                 &cells[..n],
                 &ups[..t],
                 &downs[..t],
@@ -138,37 +151,20 @@ fn edge(name: &[u8], r: Road, cell: u32, up: u32, down: u32, n: usize, t: usize)
 }
 
 // The accepted edges, and one beyond each.
-pub fn edges() {
-    let a = roads::road_a();
-    edge(b"n 3, T 0", a, 300, 1000, 0, 3, 0);
-    edge(b"n 1, T 4096", a, 1000, 1000, 0, 1, 4096);
-    edge(
-        b"n 256, T 4096, a jam that dissolves",
-        a,
-        1000,
-        0,
-        0,
-        256,
-        4096,
-    );
-    edge(
-        b"n 256, T 4096, a jam that stays",
-        a,
-        1000,
-        1000,
-        1000,
-        256,
-        4096,
-    );
-    edge(
-        b"D and J at their ceilings",
-        roads::widest(),
-        1_000_000,
-        1_000_000,
-        0,
-        256,
-        4096,
-    );
-    edge(b"n 257", a, 300, 1000, 0, 257, 1);
-    edge(b"T 4097", a, 300, 1000, 0, 1, 4097);
+pub fn edges(page: &mut Page) {
+    let mut i = 0;
+    while i < EDGE_COUNT {
+        let edge = EDGES[i];
+        long(
+            page,
+            forms::EDGES + i,
+            edge.0,
+            edge.1,
+            edge.2,
+            edge.3,
+            edge.4,
+            edge.5,
+        );
+        i += 1;
+    }
 }

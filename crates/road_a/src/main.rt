@@ -1,24 +1,17 @@
-// The worked cases of documents 01 and 02, run: one line a case, compared by the gate.
-mod buffers;
-mod counts;
+// The worked cases of Level 1, run: roads, forecasts, settling runs. One line a case, held to stdout.
 mod forecasts;
-mod predictions;
-mod readings;
+mod forms;
 mod roads;
-mod say;
 mod settlings;
-mod stations;
+
+use printing::page;
 
 fn main() {
-    roads::cases();
-    forecasts::worked();
-    forecasts::refused();
-    forecasts::edges();
-    settlings::cases();
-    readings::cases();
-    readings::fits();
-    predictions::rows();
-    predictions::candidates();
-    counts::cases();
-    stations::cases();
+    let mut page = page::open(page::OUTPUT);
+    roads::cases(&mut page);
+    forecasts::cases(&mut page);
+    forecasts::edges(&mut page);
+    settlings::cases(&mut page);
+    settlings::long_cases(&mut page);
+    page::sent(&mut page);
 }

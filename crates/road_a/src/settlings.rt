@@ -1,90 +1,135 @@
 // Settling runs: the worked case, a road that does not settle, refusals with their places, and the edges.
-use super::buffers;
-use super::roads;
-use super::say;
+use super::forms;
 use forecast::SettleAnswer;
+use printing::page;
+use printing::page::Page;
 use road::Road;
+use worked::few;
+use worked::few::ONE_2;
+use worked::few::ONE_1000;
+use worked::lists;
+use worked::print;
+use worked::roads;
+use worked::roads::A;
 
-// One settling run and what it left in the output.
-fn show(name: &[u8], r: Road, cells: &[u32], up: u32, down: u32, horizon: u32, out: &mut [u32]) {
-    say::text(b"settling ");
-    say::text(name);
-    match forecast::settle(r, cells, up, down, horizon, out) {
+fn answered(page: &mut Page, answer: SettleAnswer) {
+    match answer {
         SettleAnswer::Done(s) => {
             if s.settled {
-                say::text(b": settled after ");
+                forms::say(page, forms::SETTLED, s.steps as u64, 0);
             } else {
-                say::text(b": unsettled after ");
+                forms::say(page, forms::UNSETTLED, s.steps as u64, 0);
             }
-            say::number(s.steps as u64);
         }
         SettleAnswer::Refused(f) => {
-            say::text(b": ");
-            say::refusal(f);
+            print::refusal(page, f);
         }
     }
-    say::text(b", output");
-    say::cells(out);
-    say::text(b"\n");
 }
 
-// A settling run of n cells of one density.
-fn long(name: &[u8], r: Road, cell: u32, n: usize, t: u32) {
-    let cells = buffers::cells(cell);
-    let mut out = buffers::cells(7);
-    if n <= buffers::CELLS {
-        show(name, r, &cells[..n], 0, 0, t, &mut out[..n]);
+// One settling run and what it left in the output.
+fn show(
+    page: &mut Page,
+    line: usize,
+    road: Road,
+    cells: &[u32],
+    up: u32,
+    down: u32,
+    horizon: u32,
+    out: &mut [u32],
+) {
+    forms::say(page, line, 0, 0);
+    answered(page, forecast::settle(road, cells, up, down, horizon, out));
+    forms::say(page, forms::OUTPUT, 0, 0);
+    print::cells(page, out);
+    page::put(page, b'\n');
+}
+
+// A road, cells, the upstream and the downstream end, the most steps, and the places of the output.
+struct Case(u8, u8, u32, u32, u32, usize);
+
+const COUNT: usize = 10;
+
+const CASES: [Case; COUNT] = [
+    Case(A, ONE_2, 0, 0, 9, 1),
+    Case(A, ONE_1000, 0, 0, 3, 1),
+    Case(A, ONE_1000, 0, 0, 4096, 1),
+    Case(A, ONE_2, 0, 0, 0, 1),
+    Case(roads::C_201, ONE_2, 0, 0, 9, 1),
+    Case(A, ONE_2, 0, 0, 4097, 1),
+    Case(A, ONE_2, 0, 0, 9, 2),
+    Case(A, few::FULL_ABOVE, 1001, 1001, 9, 2),
+    Case(A, few::FULL_FULL, 1001, 1001, 0, 2),
+    Case(A, few::FULL_FULL, 1000, 1001, 9, 2),
+];
+
+// A settling run of a short list, with an output of 7s.
+fn short(
+    page: &mut Page,
+    line: usize,
+    road: u8,
+    cells: u8,
+    up: u32,
+    down: u32,
+    t: u32,
+    places: usize,
+) {
+    let xs = few::list(cells);
+    let mut out = [7u32; 3];
+    let n = few::count(cells);
+    if places <= 3 {
+        show(
+            page,
+            line,
+            roads::road(road),
+            &xs[..n],
+            up,
+            down,
+            t,
+            &mut out[..places],
+        );
     }
 }
 
-// A settling run of one cell.
-fn single(name: &[u8], r: Road, cell: u32, horizon: u32) {
-    let mut out = [7u32; 1];
-    let cells = [cell; 1];
-    show(name, r, &cells, 0, 0, horizon, &mut out);
+// The worked cases, and the refusals.
+pub fn cases(page: &mut Page) {
+    let mut i = 0;
+    while i < COUNT {
+        let case = CASES[i];
+        short(
+            page,
+            forms::SETTLINGS + i,
+            case.0,
+            case.1,
+            case.2,
+            case.3,
+            case.4,
+            case.5,
+        );
+        i += 1;
+    }
 }
 
-// A settling run on road A with an output of two.
-fn double(name: &[u8], cells: &[u32], up: u32, down: u32, horizon: u32) {
-    let mut out = [7u32; 2];
-    show(name, roads::road_a(), cells, up, down, horizon, &mut out);
+// A settling run of n full cells of road A between empty ends.
+fn long(page: &mut Page, line: usize, n: usize, t: u32) {
+    let cells = lists::cells(1000);
+    let mut out = lists::cells(7);
+    if n <= lists::CELLS {
+        show(
+            page,
+            line,
+            roads::road(A),
+            &cells[..n],
+            0,
+            0,
+            t,
+            &mut out[..n],
+        );
+    }
 }
 
-fn worked() {
-    single(b"one cell 2, ends 0, T 9", roads::road_a(), 2, 9);
-    single(b"one cell 1000, ends 0, T 3", roads::road_a(), 1000, 3);
-    single(
-        b"one cell 1000, ends 0, T 4096",
-        roads::road_a(),
-        1000,
-        4096,
-    );
-    single(b"one cell 2, T 0", roads::road_a(), 2, 0);
-}
-
-fn refused() {
-    single(b"C 201", roads::road(5, 4, 1, 1000, 201), 2, 9);
-    single(b"T 4097", roads::road_a(), 2, 4097);
-}
-
-fn refused_pairs() {
-    double(b"output of 2 for 1 cell", &[2], 0, 0, 9);
-    double(b"cell 2 above J", &[1000, 1001], 1001, 1001, 9);
-    double(b"upstream above J, T 0", &[1000, 1000], 1001, 1001, 0);
-    double(b"downstream above J", &[1000, 1000], 1000, 1001, 9);
-}
-
-// The settling runs of this file.
-pub fn cases() {
-    worked();
-    refused();
-    refused_pairs();
-    long(
-        b"n 256, a jam that dissolves",
-        roads::road_a(),
-        1000,
-        256,
-        4096,
-    );
-    long(b"n 257", roads::road_a(), 1000, 257, 9);
+// As many cells as a road can have, and one beyond.
+pub fn long_cases(page: &mut Page) {
+    long(page, forms::LONG_SETTLINGS, 256, 4096);
+    long(page, forms::LONG_SETTLINGS + 1, 257, 9);
 }

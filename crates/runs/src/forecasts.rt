@@ -1,11 +1,11 @@
 // The forecast.
-use super::pictures;
+use super::forms;
+use super::forms::say;
 use arguments::options::Options;
 use forecast::ForecastAnswer;
 use printing::lists;
 use printing::page;
 use printing::page::Page;
-use printing::say;
 use request::buffers;
 use request::keys;
 use request::numbers;
@@ -18,15 +18,11 @@ use scheme::Totals;
 fn report(page: &mut Page, lines: bool, t: Totals, horizon: u32, cells: &[u32]) {
     let n = cells.len() as u64;
     if lines {
-        say::print(page, b"done forecast % % %", &[t.entered, t.left, n]);
+        say(page, forms::FORECAST_LINE, t.entered, t.left, n, 0);
         lists::densities(page, true, cells);
         page::put(page, b'\n');
     } else {
-        say::print(
-            page,
-            b"forecast of % cell~ over % step~\n  entered %, left %\n  cells at the end\n",
-            &[n, horizon as u64, t.entered, t.left],
-        );
+        say(page, forms::FORECAST, n, horizon as u64, t.entered, t.left);
         lists::densities(page, false, cells);
     }
 }
@@ -72,7 +68,7 @@ fn made_and_drawn(
     if o.picture == 0 {
         return status::DONE;
     }
-    pictures::act(page, o, road, cells, ups, downs, out)
+    drawing::act(page, o, road, cells, ups, downs, out)
 }
 
 // The forecast of a text; the status.

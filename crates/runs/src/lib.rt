@@ -1,4 +1,4 @@
 // Level 1 on the command line: the forecast with its picture, and the settling run.
 pub mod forecasts;
-pub mod pictures;
+mod forms;
 pub mod settlings;

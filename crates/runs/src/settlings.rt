@@ -1,9 +1,10 @@
 // The settling run.
+use super::forms;
+use super::forms::say;
 use forecast::SettleAnswer;
 use printing::lists;
 use printing::page;
 use printing::page::Page;
-use printing::say;
 use request::buffers;
 use request::keys;
 use request::numbers;
@@ -19,29 +20,26 @@ fn flag(b: bool) -> u64 {
 }
 
 fn line(page: &mut Page, s: Settled, cells: &[u32]) {
-    say::print(
+    let n = cells.len() as u64;
+    say(
         page,
-        b"done settle % % %",
-        &[flag(s.settled), s.steps as u64, cells.len() as u64],
+        forms::SETTLE_LINE,
+        flag(s.settled),
+        s.steps as u64,
+        n,
+        0,
     );
     lists::densities(page, true, cells);
     page::put(page, b'\n');
 }
 
 fn report(page: &mut Page, s: Settled, horizon: u32, cells: &[u32]) {
-    say::print(
-        page,
-        b"settle of % cell~ within % step~\n  ",
-        &[cells.len() as u64, horizon as u64],
-    );
+    let n = cells.len() as u64;
+    say(page, forms::SETTLE, n, horizon as u64, 0, 0);
     if !s.settled {
-        say::text(page, b"not ");
+        say(page, forms::NOT, 0, 0, 0, 0);
     }
-    say::print(
-        page,
-        b"settled after % step~\n  cells then\n",
-        &[s.steps as u64],
-    );
+    say(page, forms::SETTLED, s.steps as u64, 0, 0, 0);
     lists::densities(page, false, cells);
 }
 

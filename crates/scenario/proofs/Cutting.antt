@@ -7,9 +7,8 @@ use native.Mathlib.Nat.{not-suc-le-zero}
 use native.Mathlib.Omega.{arith}
 use lib.ListN.{length, take, drop, length-drop, drop-of-length-le}
 use lib.Seq.{drop-drop}
-use Rattle.road.specs.Choice.{pick}
-use Rattle.scenario.proofs.Marks.{before-bound}
-use Rattle.scenario.specs.Pieces.{cuts, before, grown, split}
+use Rattle.choice.specs.Choice.{pick}
+use Rattle.vocabulary.specs.Pieces.{cuts, before, PieceEnds, grown, split}
 
 -- the pieces from place at on; none past the end
 abbrev pub remaining : ℕ → ℕ → List ℕ → List (List ℕ)
@@ -43,18 +42,14 @@ module _ (mark : ℕ) where
       by-test true = refl
       by-test false = grown-cut b bs
 
-  module _ (text : List ℕ) (at end : ℕ) (h : at < length text) (e : end ≡ at + before mark (drop at text)) where
-    -- a piece that starts in the text ends in it
-    pub inside : (at ≤ end) × (end ≤ length text)
-    inside = (omega arith, omega (arith, before-bound mark (drop at text), length-drop at text))
-
+  module _ (text : List ℕ) (at end : ℕ) (h : at < length text) (e : PieceEnds text at mark end) where
     -- the piece that starts at a place, and the others
     pub cut : remaining mark at text ≡ part at end text ∷ remaining mark (end + 1) text
     cut =
         let k = before mark (drop at text) in
         let some : 0 < length (drop at text) = omega (arith, length-drop at text) in
-        let size : end - at ≡ k = omega arith in
-        let next : at + suc k ≡ end + 1 = omega arith in
+        let size : end - at ≡ k = omega (arith, e .at) in
+        let next : at + suc k ≡ end + 1 = omega (arith, e .at) in
         rw (size, ← next, ← drop-drop (suc k) at text) (first-cut (drop at text) some)
 
   -- no piece starts past the end

@@ -5,14 +5,15 @@ use Prim.Native.Nat.{ℕ, zero, suc, _+_, _-_, _≤_, _<_}
 use native.Mathlib.Numerals.{add-one}
 use native.Mathlib.Omega.{arith}
 use lib.Dec.{eqb, eqb·suc-zero}
-use lib.ListN.{length, drop}
+use lib.ListN.{length}
 use borrow.Author.Tests.{eq-eqb, ne-eqb}
-use Rattle.road.specs.Choice.{pick}
-use Rattle.scenario.specs.Pieces.{blank, newline, before, filled, filledPiece, words}
-use Rattle.scenario.specs.Keys.{keyOf}
-use Rattle.scenario.specs.Values.{itemOf, repeated, allValues, given, gathered, lineOf}
+use Rattle.choice.specs.Choice.{pick}
+use Rattle.vocabulary.specs.Pieces.{blank, newline, PieceEnds, filled, filledPiece, words}
+use Rattle.vocabulary.specs.Keys.{keyOf}
+use Rattle.vocabulary.specs.Items.{itemOf}
+use Rattle.scenario.specs.Values.{repeated, allValues, given, gathered, lineOf}
 use Rattle.scenario.specs.Judging.{wrongValue, judgedLine, judgedLines}
-use Rattle.scenario.specs.declared.items.Item.{Item}
+use Rattle.vocabulary.specs.declared.items.Item.{Item}
 use Rattle.scenario.specs.declared.judging.Progress.{Progress}
 use Rattle.scenario.proofs.Cutting.{remaining, part, cut}
 
@@ -40,7 +41,7 @@ count-cons [] ps = omega arith
 count-cons (b ∷ bs) ps = omega arith
 
 module _ (text : List ℕ) (at end : ℕ) (h : at < length text) where
-  module _ (e : end ≡ at + before blank (drop at text)) where
+  module _ (e : PieceEnds text at blank end) where
     pub values-on : (key : ℕ) → allValues key (filled (remaining blank at text))
         ≡ allValues key (filledPiece (part at end text)) ++ allValues key (filled (remaining blank (end + 1) text))
     values-on key = rw (cut blank text at end h e) (values-cons key (part at end text) (remaining blank (end + 1) text))
@@ -63,7 +64,7 @@ module _ (text : List ℕ) (at end : ℕ) (h : at < length text) where
     count-on = rw (cut blank text at end h e) (count-cons (part at end text) (remaining blank (end + 1) text))
 
   -- of lines
-  module _ (e : end ≡ at + before newline (drop at text)) where
+  module _ (e : PieceEnds text at newline end) where
     pub given-on : (key : ℕ) → gathered key (remaining newline at text)
         ≡ given key (words (part at end text)) ++ gathered key (remaining newline (end + 1) text)
     unfolding gathered

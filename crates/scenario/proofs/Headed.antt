@@ -10,16 +10,16 @@ use lib.Dec.{eqb}
 use lib.ListN.{length, take, drop, length-drop}
 use lib.Seq.{take-nil, drop-nil, take-take, drop-drop, length-take-le}
 use borrow.Author.Tests.{eq-eqb, ne-eqb, le-ltb}
-use Rattle.road.specs.Choice.{pick}
-use Rattle.scenario.specs.Pieces.{blank, hash, isBlank, before, split, filled, words, wordsIn, leading, firstWord}
-use Rattle.scenario.specs.Keys.{keyCode, keyOf, noKey, unknownKey}
+use Rattle.choice.specs.Choice.{pick}
+use Rattle.vocabulary.specs.Pieces.{blank, hash, isBlank, before, PieceEnds, split, filled, words, wordsIn, leading, firstWord}
+use Rattle.vocabulary.specs.Keys.{keyCode, keyOf, noKey, unknownKey}
 use Rattle.scenario.specs.Heads.{body, keyAt, headOf}
 use Rattle.scenario.specs.Values.{allValues, given}
 use Rattle.scenario.specs.Judging.{lineCeiling, wrongWords, wrongValues, wrongLine}
 use Rattle.scenario.specs.declared.finding.Head.{Head}
-use Rattle.scenario.specs.declared.pieces.Part.{Part}
-use Rattle.scenario.proofs.Marks.{before-bound, leading-bound}
-use Rattle.scenario.proofs.Naming.{key-bound}
+use Rattle.vocabulary.specs.declared.pieces.Part.{Part}
+use Rattle.vocabulary.proofs.Marks.{before-bound, leading-bound}
+use Rattle.vocabulary.proofs.Naming.{key-bound}
 use Rattle.scenario.proofs.Cutting.{remaining, part, first-cut}
 
 -- the words after the first mark
@@ -223,12 +223,9 @@ module _ (line : List ℕ) (h : Head) (e : h ≡ headOf line) where
     line-known n m = line-wrong ∙ head-wrong ∙ rw (ne-eqb (h .key) noKey n, ne-eqb (h .key) unknownKey m) refl
 
 -- the head, as it is found
-module _ (line : List ℕ) (end : ℕ) (e : end ≡ 0 + before hash (drop 0 line)) where
+module _ (line : List ℕ) (end : ℕ) (e : PieceEnds line 0 hash end) where
   end-is : end ≡ before hash line
-  end-is = omega arith
-
-  pub stop-inside : end ≤ length line
-  stop-inside = omega (arith, end-is, before-bound hash line)
+  end-is = omega (arith, e .at)
 
   module _ (w : Part) (o : w ≡ firstWord (take end line)) where
     pub word-within : (w .start ≤ w .end) × (w .end ≤ length line)

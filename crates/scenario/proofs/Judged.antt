@@ -6,9 +6,9 @@ use Prim.Native.Nat.{ℕ, _+_}
 use native.Mathlib.Numerals.{add-one}
 use lib.ListN.{length, getD, set}
 use borrow.Author.Tests.{ne-eqb}
-use Rattle.road.specs.Choice.{pick}
-use Rattle.scenario.specs.Pieces.{words, lines}
-use Rattle.scenario.specs.Keys.{keyOf, endKey}
+use Rattle.choice.specs.Choice.{pick}
+use Rattle.vocabulary.specs.Pieces.{words, lines}
+use Rattle.vocabulary.specs.Keys.{keyOf, endKey}
 use Rattle.scenario.specs.Judging.{wrongValue, wrongNumber, wrongValues, wrongLine, wrongAfter, judgedLine, judgedLines, atStart, verdictOf, verdict}
 use Rattle.scenario.specs.declared.judging.Progress.{Progress}
 

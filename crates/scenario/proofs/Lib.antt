@@ -1,14 +1,8 @@
 -- What the proofs of the reader share: searches, keywords, numbers and values; pieces and their cuts, a line by its head,
 -- lists stored in a row, and the judgement.
-pub mod Search
-pub mod Marks
-pub mod Naming
-pub mod Decimal
-pub mod Plain
-pub mod Runs
 pub mod Cutting
 pub mod Headed
 pub mod Storing
 pub mod Folds
 pub mod Judged
-pub mod Midway
+pub mod Loops

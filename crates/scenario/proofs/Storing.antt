@@ -67,16 +67,16 @@ unfolding overlaid
 stored-one out k v h = record { list = refl; filled = omega arith }
 
 -- what is left to store from place at on, for the whole from place k on
-pub record Underway (rest whole : List ℕ) (k : ℕ) (start out : List ℕ) (at : ℕ) : Type 0 where
+pub record ValuesStored (rest whole : List ℕ) (k : ℕ) (start out : List ℕ) (at : ℕ) : Type 0 where
   pub room : at ≤ length out
   pub long : length out ≡ length start
   pub on : (next : List ℕ) (r : ℕ) → Stored out next at rest r → Stored start next k whole r
 
-pub begins : (whole out : List ℕ) (k : ℕ) → k ≤ length out → Underway whole whole k out out k
+pub begins : (whole out : List ℕ) (k : ℕ) → k ≤ length out → ValuesStored whole whole k out out k
 begins whole out k h = record { room = h; long = refl; on = λ next r s. s }
 
-module _ {rest whole start out : List ℕ} {k at : ℕ} (now : Underway rest whole k start out at) where
-  pub turns : (here later next : List ℕ) (r : ℕ) → rest ≡ here ++ later → Stored out next at here r → Underway later whole k start next r
+module _ {rest whole start out : List ℕ} {k at : ℕ} (now : ValuesStored rest whole k start out at) where
+  pub turns : (here later next : List ℕ) (r : ℕ) → rest ≡ here ++ later → Stored out next at here r → ValuesStored later whole k start next r
   turns here later next r e s = record {
     room = stored-room s;
     long = stored-length s ∙ now .long;

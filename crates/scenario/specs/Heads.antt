@@ -3,9 +3,9 @@ use mathlib.Core.List.{List}
 use Prim.Native.Nat.{ℕ, _-_}
 use lib.Dec.{eqb}
 use lib.ListN.{take, drop}
-use Rattle.road.specs.Choice.{pick}
-use Rattle.scenario.specs.Pieces.{hash, before, firstWord}
-use Rattle.scenario.specs.Keys.{keyCode, noKey}
+use Rattle.choice.specs.Choice.{pick}
+use Rattle.vocabulary.specs.Pieces.{hash, before, firstWord}
+use Rattle.vocabulary.specs.Keys.{keyCode, noKey}
 use Rattle.scenario.specs.declared.finding.Head.{Head}
 
 -- the key of the word from start up to end; none where nothing stands there

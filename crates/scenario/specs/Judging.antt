@@ -4,10 +4,10 @@ use mathlib.Core.List.{List, [], _∷_}
 use Prim.Native.Nat.{ℕ, suc, _+_}
 use lib.Dec.{eqb, ltb}
 use lib.ListN.{length, getD, set, replicate}
-use Rattle.road.specs.Choice.{pick}
-use Rattle.scenario.specs.Pieces.{lines, words}
-use Rattle.scenario.specs.Keys.{keyCount, keyCode, keyOf, isList, arity, unknownKey, noKey, endKey}
-use Rattle.scenario.specs.Values.{itemOf}
+use Rattle.choice.specs.Choice.{pick}
+use Rattle.vocabulary.specs.Pieces.{lines, words}
+use Rattle.vocabulary.specs.Keys.{keyCount, keyCode, keyRow, keyOf, unknownKey, noKey, endKey}
+use Rattle.vocabulary.specs.Items.{itemOf}
 use Rattle.scenario.specs.declared.judging.Verdict.{Verdict}
 use Rattle.scenario.specs.declared.judging.Progress.{Progress}
 
@@ -23,7 +23,7 @@ wrongValue key (w ∷ ws) = pick (eqb (itemOf key w .what) 0) (wrongValue key ws
 
 -- a list takes one value or more, another key its own number
 abbrev pub wrongNumber : ℕ → ℕ → Bool
-wrongNumber key n = pick (isList key) (eqb n 0) (not (eqb n (arity key)))
+wrongNumber key n = pick (keyRow key .list) (eqb n 0) (not (eqb n (keyRow key .values)))
 
 -- what is wrong with the values of a key: 5, their number; otherwise the first wrong value
 abbrev pub wrongValues : ℕ → List (List ℕ) → ℕ
@@ -45,7 +45,7 @@ wrongAfter ended given key own =
     pick (eqb key noKey) own
     (pick ended 7
     (pick (eqb own 0)
-    (pick (isList key) 0 (pick given 6 0))
+    (pick (keyRow key .list) 0 (pick given 6 0))
     own))
 
 -- one line on: the line's number, its key and what is wrong

@@ -1,7 +1,4 @@
--- What a scenario's text means: pieces, numbers, keys, values, and the judgement of a text.
-pub mod Pieces
-pub mod Numbers
-pub mod Keys
+-- What a scenario's text means: the head of a line, the values of a key, and the judgement of a text.
 pub mod Heads
 pub mod Values
 pub mod Judging

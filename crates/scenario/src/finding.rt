@@ -2,15 +2,15 @@
 ghost use mathlib.Core.Path.{_≡_};
 ghost use Prim.Native.Nat.{_≤_};
 ghost use lib.ListN.{length};
-ghost use Rattle.scenario.specs.Pieces.{lines};
+ghost use Rattle.vocabulary.specs.Pieces.{lines};
 ghost use Rattle.scenario.specs.Values.{lineOf};
 ghost use Rattle.scenario.specs.Heads.{keyAt, headOf};
-use super::keys::NO_KEY;
-use super::keys::key_code;
-use super::pieces::HASH;
-use super::pieces::NEWLINE;
-use super::pieces::first_word;
-use super::pieces::piece_end;
+use vocabulary::HASH;
+use vocabulary::NEWLINE;
+use vocabulary::NO_KEY;
+use vocabulary::first_word;
+use vocabulary::key_code;
+use vocabulary::piece_end;
 
 // A line's key, and the part of the line where its values stand: from one place up to another.
 pub struct Head {

@@ -2,19 +2,18 @@
 ghost use mathlib.Core.Path.{_≡_};
 ghost use Prim.Native.Nat.{_<_, _^_};
 ghost use lib.ListN.{length};
-ghost use Rattle.scenario.specs.Pieces.{wordsIn, filledPiece};
+ghost use Rattle.vocabulary.specs.Pieces.{wordsIn, filledPiece};
 ghost use Rattle.scenario.specs.Judging.{wrongValue, wrongNumber, wrongValues, wrongLine, wrongAfter, judgedLine, toldKey, verdictOf, verdict};
 use super::finding::head_of;
-use super::items::item_of;
-use super::keys::CODES;
-use super::keys::END;
-use super::keys::NO_KEY;
-use super::keys::UNKNOWN;
-use super::keys::arity;
-use super::keys::is_list;
-use super::pieces::BLANK;
-use super::pieces::NEWLINE;
-use super::pieces::piece_end;
+use vocabulary::BLANK;
+use vocabulary::CODES;
+use vocabulary::END;
+use vocabulary::NEWLINE;
+use vocabulary::NO_KEY;
+use vocabulary::UNKNOWN;
+use vocabulary::item_of;
+use vocabulary::key_of;
+use vocabulary::piece_end;
 
 // What is wrong first (0: nothing); its line, from 1 (0 only where nothing is wrong); and that line's key, UNKNOWN where it
 // has none or an unknown one, and for 0, 8 and 9.
@@ -86,10 +85,10 @@ fn count_words(part: &[u8]) -> usize
 fn wrong_number(key: u8, n: usize) -> bool
     ensures { λ b. ⌜ b ≡ wrongNumber key n ⌝ }
 {
-    if is_list(key) {
+    if key_of(key).list {
         n == 0
     } else {
-        n != arity(key)
+        n != key_of(key).values
     }
 }
 
@@ -133,7 +132,7 @@ fn wrong_after(ended: bool, given: bool, key: u8, own: u32) -> u32
         7
     } else if own != 0 {
         own
-    } else if is_list(key) {
+    } else if key_of(key).list {
         0
     } else if given {
         6

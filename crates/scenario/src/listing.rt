@@ -2,13 +2,13 @@
 ghost use mathlib.Core.Path.{_≡_};
 ghost use Prim.Native.Nat.{_≤_};
 ghost use lib.ListN.{length};
-ghost use Rattle.scenario.specs.Pieces.{filledPiece, wordsIn, words};
+ghost use Rattle.vocabulary.specs.Pieces.{filledPiece, wordsIn, words};
 ghost use Rattle.scenario.specs.Values.{repeated, allValues, given, valuesOf, Stored};
 use super::finding::head_of;
-use super::items::item_of;
-use super::pieces::BLANK;
-use super::pieces::NEWLINE;
-use super::pieces::piece_end;
+use vocabulary::BLANK;
+use vocabulary::NEWLINE;
+use vocabulary::item_of;
+use vocabulary::piece_end;
 
 // Internal: a value stored a number of times, as far as the list goes; how far it is then filled.
 fn append(out: &mut [u64], filled: usize, value: u64, times: u64) -> usize

@@ -8,9 +8,9 @@ use native.Mathlib.Nat.{le-of-suc-le-suc, not-suc-le-zero, add-zero, zero-add, a
 use lib.Dec.{eqb}
 use lib.ListN.{length, getD}
 use borrow.Author.Tests.{eqb-true, eq-eqb}
-use Rattle.road.specs.Choice.{both}
+use Rattle.choice.specs.Choice.{both}
 use Rattle.road.specs.declared.Road.{Road}
-use Rattle.road.proofs.Choice.{both-first, both-second}
+use Rattle.choice.proofs.Choice.{both-first, both-second}
 use Rattle.flux.specs.Face.{letter}
 use Rattle.scheme.specs.Advance.{ahead, outflow, flows, entering, leaving, padded, faceFlows}
 use Rattle.scheme.specs.Sums.{sum, sameList}

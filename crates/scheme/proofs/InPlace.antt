@@ -14,7 +14,7 @@ use Rattle.scheme.specs.Calls.{Stepped}
 use Rattle.scheme.proofs.Range.{in-room}
 use Rattle.scheme.proofs.Ahead.{ahead-is, enters}
 
-pub record Midway (j : ℕ) (F : ℕ → ℕ → ℕ → ℕ) (up down : ℕ) (old : List ℕ) (first : ℕ) (x : List ℕ) (i inflow : ℕ) : Type 0 where
+pub record StepUnderway (j : ℕ) (F : ℕ → ℕ → ℕ → ℕ) (up down : ℕ) (old : List ℕ) (first : ℕ) (x : List ℕ) (i inflow : ℕ) : Type 0 where
   pub long : length x ≡ length old
   pub inside : i < length x
   pub below : Below j x
@@ -42,7 +42,7 @@ module _ (F : ℕ → ℕ → ℕ → ℕ) (i w d own : ℕ) {x rest : List ℕ}
   outflow-cell = rw (here, over) refl
 
 module _ {j c : ℕ} {F : ℕ → ℕ → ℕ → ℕ} (laws : Lawful 1 j c F) where
-  pub begins : (up down : ℕ) (old : List ℕ) {first : ℕ} → 0 < length old → Below j old → first ≡ F 0 up (getD old 0 0) → Midway j F up down old first old 0 first
+  pub begins : (up down : ℕ) (old : List ℕ) {first : ℕ} → 0 < length old → Below j old → first ≡ F 0 up (getD old 0 0) → StepUnderway j F up down old first old 0 first
   unfolding stepped leaving
   begins up down old pos h e =
       let same = e ∙ sym (enters F up down old pos) in
@@ -56,8 +56,8 @@ module _ {j c : ℕ} {F : ℕ → ℕ → ℕ → ℕ} (laws : Lawful 1 j c F) w
         left = ap (λ (w : ℕ). outflow F 1 w down old) same;
       }
 
-  module _ {up down : ℕ} {old : List ℕ} {first : ℕ} {x : List ℕ} {i inflow : ℕ} (now : Midway j F up down old first x i inflow) {out : ℕ} where
-    turn : suc i < length x → out ≡ F (suc i) (getD x i 0) (getD x (suc i) 0) → Midway j F up down old first (set x i (getD x i 0 + inflow - out)) (suc i) out
+  module _ {up down : ℕ} {old : List ℕ} {first : ℕ} {x : List ℕ} {i inflow : ℕ} (now : StepUnderway j F up down old first x i inflow) {out : ℕ} where
+    turn : suc i < length x → out ≡ F (suc i) (getD x i 0) (getD x (suc i) 0) → StepUnderway j F up down old first (set x i (getD x i 0 + inflow - out)) (suc i) out
     turn h e =
         let own = getD x i 0 in
         let new = own + inflow - out in
@@ -77,7 +77,7 @@ module _ {j c : ℕ} {F : ℕ → ℕ → ℕ → ℕ} (laws : Lawful 1 j c F) w
         }
 
     -- the same, with the index as the code has it
-    pub turns : i + 1 < length x → out ≡ F (i + 1) (getD x i 0) (getD x (i + 1) 0) → Midway j F up down old first (set x i (getD x i 0 + inflow - out)) (i + 1) out
+    pub turns : i + 1 < length x → out ≡ F (i + 1) (getD x i 0) (getD x (i + 1) 0) → StepUnderway j F up down old first (set x i (getD x i 0 + inflow - out)) (i + 1) out
     turns = rw (add-one i) turn
 
     pub ends : length x ≤ suc i → out ≡ F (suc i) (getD x i 0) down → Stepped F up down old (set x i (getD x i 0 + inflow - out)) record { entered = first; left = out }

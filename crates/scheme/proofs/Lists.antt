@@ -8,7 +8,7 @@ use native.Mathlib.Omega.{arith}
 use lib.Dec.{eqb}
 use lib.ListN.{length, getD}
 use borrow.Author.Tests.{eqb-true, eq-eqb}
-use Rattle.road.proofs.Choice.{both-first, both-second}
+use Rattle.choice.proofs.Choice.{both-first, both-second}
 use Rattle.scheme.specs.Sums.{gap, distance, times, sameList, NoMore}
 
 -- two lists that the test finds the same are the same

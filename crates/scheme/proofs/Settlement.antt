@@ -71,23 +71,23 @@ module _ (S : List ℕ → List ℕ) (T : List ℕ → Bool) where
       by-test false e rest = rw e (found-later t xs e (finds S T t (S xs)) (stepsTo S T t (S xs)) rest)
 
   -- the loop after k steps, none of which was still
-  pub record Searching (j t : ℕ) (old cells : List ℕ) (k : ℕ) : Type 0 where
+  pub record StillnessSought (j t : ℕ) (old cells : List ℕ) (k : ℕ) : Type 0 where
     pub long : length cells ≡ length old
     pub below : Below j cells
     pub reached : cells ≡ iterated S k old
     pub steps-left : k + stepsTo S T (t - k) cells ≡ stepsTo S T t old
     pub finds-left : finds S T (t - k) cells ≡ finds S T t old
 
-  pub begins : {j : ℕ} (t : ℕ) (old : List ℕ) → Below j old → Searching j t old old 0
+  pub begins : {j : ℕ} (t : ℕ) (old : List ℕ) → Below j old → StillnessSought j t old old 0
   unfolding iterated
   begins t old h = record { long = refl; below = h; reached = refl; steps-left = rw (sub-zero t) (omega arith); finds-left = rw (sub-zero t) refl }
 
 -- the next turn of the loop, of a step that keeps the number of cells and the range
-module _ {S : List ℕ → List ℕ} {T : List ℕ → Bool} {j t : ℕ} {old cells : List ℕ} {k : ℕ} (now : Searching S T j t old cells k) where
+module _ {S : List ℕ → List ℕ} {T : List ℕ → Bool} {j t : ℕ} {old cells : List ℕ} {k : ℕ} (now : StillnessSought S T j t old cells k) where
   one-less : k < t → t - k ≡ suc (t - suc k)
   one-less h = omega arith
 
-  turn : (next : List ℕ) → k < t → T cells ≡ false → next ≡ S cells → length (S cells) ≡ length cells → Below j (S cells) → Searching S T j t old next (suc k)
+  turn : (next : List ℕ) → k < t → T cells ≡ false → next ≡ S cells → length (S cells) ≡ length cells → Below j (S cells) → StillnessSought S T j t old next (suc k)
   turn next h e s long below =
       let on = goes-on S T (t - suc k) cells e in
       record {
@@ -98,7 +98,7 @@ module _ {S : List ℕ → List ℕ} {T : List ℕ → Bool} {j t : ℕ} {old ce
         finds-left = rw s (sym (on .0) ∙ rw (one-less h) at (now .finds-left));
       }
 
-  pub turns : (next : List ℕ) → k < t → T cells ≡ false → next ≡ S cells → length (S cells) ≡ length cells → Below j (S cells) → Searching S T j t old next (k + 1)
+  pub turns : (next : List ℕ) → k < t → T cells ≡ false → next ≡ S cells → length (S cells) ≡ length cells → Below j (S cells) → StillnessSought S T j t old next (k + 1)
   turns = rw (add-one k) turn
 
 module _ (r : Road) (up down : ℕ) where
@@ -106,7 +106,7 @@ module _ (r : Road) (up down : ℕ) where
   unfolding settles settleSteps
   least-still = least (roundStep r up down) (still r up down)
 
-  module _ {j t : ℕ} {old cells : List ℕ} {k : ℕ} (now : Searching (roundStep r up down) (still r up down) j t old cells k) where
+  module _ {j t : ℕ} {old cells : List ℕ} {k : ℕ} (now : StillnessSought (roundStep r up down) (still r up down) j t old cells k) where
     -- a still step follows
     pub settled : k < t → still r up down cells ≡ true → SettledTo r up down t old cells record { settled = true; steps = k }
     unfolding settles settleSteps settleCells

@@ -11,10 +11,10 @@ use lib.Dec.{eqb}
 use lib.ListN.{length, getD, drop, drop-of-length-le}
 use lib.Seq.{drop-cons}
 use borrow.Author.Tests.{eq-eqb, ne-eqb}
-use Rattle.road.specs.Choice.{both}
+use Rattle.choice.specs.Choice.{both}
 use Rattle.road.specs.Judgement.{Accepted}
 use Rattle.road.specs.declared.Road.{Road}
-use Rattle.road.proofs.Choice.{both-true, both-false}
+use Rattle.choice.proofs.Choice.{both-true, both-false}
 use Rattle.flux.specs.Face.{numerator, units, letter}
 use Rattle.scheme.specs.Advance.{ahead, advance, outflow, entering, leaving, stepped}
 use Rattle.scheme.specs.Sums.{sum, sameList, Below}
@@ -32,7 +32,7 @@ abbrev compared : Road → ℕ → ℕ → ℕ → ℕ → ℕ → List ℕ → 
 compared r down old-left new-left i inflow xs =
     sameList (wordOf r old-left down xs) (wordOf r new-left down (advance 1 (moved r) i inflow down xs))
 
-pub record Comparing (r : Road) (up down : ℕ) (x : List ℕ) (old-left new-left inflow i : ℕ) : Type 0 where
+pub record LettersCompared (r : Road) (up down : ℕ) (x : List ℕ) (old-left new-left inflow i : ℕ) : Type 0 where
   pub inside : i ≤ length x
   pub old-below : old-left ≤ r .jam
   pub new-below : new-left ≤ r .jam
@@ -83,7 +83,7 @@ module _ (r : Road) (ok : Accepted r) (up down : ℕ) (x : List ℕ) where
     unequal n = sym (ap (both (keepsLetters r up down x)) (sym sums ∙ ne-eqb first last n) ∙ both-false (keepsLetters r up down x))
 
 module _ {r : Road} (ok : Accepted r) where
-  pub begins : (up down : ℕ) (x : List ℕ) {first : ℕ} → Below (r .jam) x → up ≤ r .jam → first ≡ entering (moved r) up down x → Comparing r up down x up up first 0
+  pub begins : (up down : ℕ) (x : List ℕ) {first : ℕ} → Below (r .jam) x → up ≤ r .jam → first ≡ entering (moved r) up down x → LettersCompared r up down x up up first 0
   unfolding stepped
   begins up down x h u e = record {
     inside = omega arith;
@@ -93,7 +93,7 @@ module _ {r : Road} (ok : Accepted r) where
     letters = ap (λ (w : ℕ). compared r down up up 1 w x) e;
   }
 
-  module _ {up down : ℕ} {x : List ℕ} {old-left new-left inflow i : ℕ} (now : Comparing r up down x old-left new-left inflow i) where
+  module _ {up down : ℕ} {x : List ℕ} {old-left new-left inflow i : ℕ} (now : LettersCompared r up down x old-left new-left inflow i) where
     -- the next face with its new density, by what the code worked out
     module _ {next out : ℕ} (h : i < length x) (n : next ≡ ahead down (drop (suc i) x)) (e : out ≡ units r (numerator r (getD x i 0) next)) where
       cell : both (eqb (letter r old-left (getD x i 0)) (letter r new-left (getD x i 0 + inflow - out)))
@@ -110,7 +110,7 @@ module _ {r : Road} (ok : Accepted r) where
       changed k = rw k at cell
 
       turn : eqb (letter r old-left (getD x i 0)) (letter r new-left (getD x i 0 + inflow - out)) ≡ true → Below (r .jam) x
-          → Comparing r up down x (getD x i 0) (getD x i 0 + inflow - out) out (suc i)
+          → LettersCompared r up down x (getD x i 0) (getD x i 0 + inflow - out) out (suc i)
       turn k below = record {
         inside = h;
         old-below = below i;
@@ -128,7 +128,7 @@ module _ {r : Road} (ok : Accepted r) where
 
     pub turns : {next out : ℕ} → i < length x → next ≡ ahead down (drop (i + 1) x) → out ≡ units r (numerator r (getD x i 0) next)
         → eqb (letter r old-left (getD x i 0)) (letter r new-left (getD x i 0 + inflow - out)) ≡ true → Below (r .jam) x
-        → Comparing r up down x (getD x i 0) (getD x i 0 + inflow - out) out (i + 1)
+        → LettersCompared r up down x (getD x i 0) (getD x i 0 + inflow - out) out (i + 1)
     turns = rw (add-one i) turn
 
     pub ends : length x ≤ i → eqb (letter r old-left down) (letter r new-left down) ≡ keepsLetters r up down x

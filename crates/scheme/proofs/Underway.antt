@@ -20,7 +20,7 @@ use Rattle.scheme.proofs.Shape.{stepped-length}
 use Rattle.scheme.proofs.Range.{steps-below, out-holds}
 use Rattle.scheme.proofs.Runs.{ran-more, summed-more}
 
-pub record Underway (j : ℕ) (F : ℕ → ℕ → ℕ → ℕ → ℕ) (ups downs old cells : List ℕ) (in-sum out-sum t : ℕ) : Type 0 where
+pub record RunUnderway (j : ℕ) (F : ℕ → ℕ → ℕ → ℕ → ℕ) (ups downs old cells : List ℕ) (in-sum out-sum t : ℕ) : Type 0 where
   pub long : length cells ≡ length old
   pub below : Below j cells
   pub cells-now : cells ≡ reached (λ s. stepped 1 (F s)) t ups downs old
@@ -45,15 +45,15 @@ module _ {j c : ℕ} {F : ℕ → ℕ → ℕ → ℕ} (laws : Lawful 1 j c F) w
   unfolding leaving
   leaving-small u d xs h k = outflow-small 1 (entering F u d xs) d xs h (entering-small u d xs k)
 
-pub begins : {j : ℕ} (F : ℕ → ℕ → ℕ → ℕ → ℕ) (ups downs old : List ℕ) → Below j old → Underway j F ups downs old old 0 0 0
+pub begins : {j : ℕ} (F : ℕ → ℕ → ℕ → ℕ → ℕ) (ups downs old : List ℕ) → Below j old → RunUnderway j F ups downs old old 0 0 0
 unfolding ran summed
 begins F ups downs old h =
     record { long = refl; below = h; cells-now = refl; entered-now = refl; left-now = refl; in-small = zero-le; out-small = zero-le }
 
 module _ {j c : ℕ} {F : ℕ → ℕ → ℕ → ℕ → ℕ} (laws : AlwaysLawful 1 j c F) (high : j ≤ jamCeiling)
-    {ups downs old xs : List ℕ} {in-sum out-sum t : ℕ} (now : Underway j F ups downs old xs in-sum out-sum t) where
+    {ups downs old xs : List ℕ} {in-sum out-sum t : ℕ} (now : RunUnderway j F ups downs old xs in-sum out-sum t) where
   turn : (ys : List ℕ) (m : Moved) → t < length ups → t < length downs → getD ups t 0 ≤ j
-      → Stepped (F t) (getD ups t 0) (getD downs t 0) xs ys m → Underway j F ups downs old ys (in-sum + m .entered) (out-sum + m .left) (suc t)
+      → Stepped (F t) (getD ups t 0) (getD downs t 0) xs ys m → RunUnderway j F ups downs old ys (in-sum + m .entered) (out-sum + m .left) (suc t)
   turn ys m hu hd k s =
       let u = getD ups t 0 in
       let d = getD downs t 0 in
@@ -69,11 +69,11 @@ module _ {j c : ℕ} {F : ℕ → ℕ → ℕ → ℕ → ℕ} (laws : AlwaysLaw
       }
 
   pub turns : (ys : List ℕ) (m : Moved) → t < length ups → t < length downs → getD ups t 0 ≤ j
-      → Stepped (F t) (getD ups t 0) (getD downs t 0) xs ys m → Underway j F ups downs old ys (in-sum + m .entered) (out-sum + m .left) (t + 1)
+      → Stepped (F t) (getD ups t 0) (getD downs t 0) xs ys m → RunUnderway j F ups downs old ys (in-sum + m .entered) (out-sum + m .left) (t + 1)
   turns = rw (add-one t) turn
 
 -- all steps made, on a road
-pub ends : {r : Road} {ups downs old xs : List ℕ} {in-sum out-sum t : ℕ} → Underway (r .jam) (λ s. moved r) ups downs old xs in-sum out-sum t
+pub ends : {r : Road} {ups downs old xs : List ℕ} {in-sum out-sum t : ℕ} → RunUnderway (r .jam) (λ s. moved r) ups downs old xs in-sum out-sum t
     → length ups ≤ t → length downs ≤ t → Ran r ups downs old xs record { entered = in-sum; left = out-sum }
 unfolding roundRun entered left
 ends {ups = ups} {downs = downs} {t = t} now h g =

@@ -4,7 +4,7 @@ use mathlib.Core.Bool.{Bool, true, false}
 use mathlib.Core.List.{List, [], _∷_}
 use Prim.Native.Nat.{ℕ, zero, suc, _<_}
 use lib.Dec.{eqb}
-use Rattle.road.specs.Choice.{pick, both}
+use Rattle.choice.specs.Choice.{pick, both}
 use Rattle.road.specs.declared.Road.{Road}
 use Rattle.scheme.specs.Sums.{sum, sameList}
 use Rattle.scheme.specs.Runs.{iterated}

@@ -5,7 +5,7 @@ use mathlib.Core.List.{List, [], _∷_}
 use Prim.Native.Nat.{ℕ, _+_, _-_, _*_, _≤_}
 use lib.Dec.{eqb}
 use lib.ListN.{length, getD}
-use Rattle.road.specs.Choice.{both}
+use Rattle.choice.specs.Choice.{both}
 
 -- the sum of the cells
 unfoldable pub sum : List ℕ → ℕ

@@ -7,8 +7,8 @@ use Rattle.road.specs.declared.refusal.Refusal.{Refusal}
 use Rattle.road.proofs.Table.{_&_, no-place}
 use Rattle.road.proofs.Acceptance.{accepted-by, road-passes}
 use Rattle.road.proofs.Calls.{Call, refuses, accepts}
-use Rattle.modes.specs.Candidate.{badEstimate}
-use Rattle.modes.proofs.CandidateAnswers.{finite-of, of-finite}
+use Rattle.candidate.specs.Candidate.{badEstimate}
+use Rattle.candidate.proofs.CandidateAnswers.{finite-of, of-finite}
 use Rattle.site.specs.declared.stations.StationReading.{StationReading}
 use Rattle.site.specs.declared.stations.StationReading.the-variants.{Density, FlowAndSpeed, Speed}
 use Rattle.site.specs.declared.stations.Estimate.{Estimate}

@@ -6,13 +6,13 @@ use Prim.Native.Nat.{ℕ}
 use lib.Dec.{eqb}
 use lib.IntN.{pos}
 use lib.Ieee.{Float, inf, binary64, add, mul, div, lt, le, eq, ne, ofInt, ofBits}
-use Rattle.road.specs.Choice.{pick, or}
+use Rattle.choice.specs.Choice.{pick, or}
 use Rattle.road.specs.Table.{Row, row, judge, refused, Judged}
 use Rattle.road.specs.Judgement.{roadRows, Accepted}
 use Rattle.road.specs.declared.Road.{Road}
 use Rattle.road.specs.declared.refusal.Refusal.{Refusal}
 use Rattle.floats.specs.Worth.{FiniteUpTo}
-use Rattle.modes.specs.Candidate.{badEstimate}
+use Rattle.candidate.specs.Candidate.{badEstimate}
 use Rattle.site.specs.declared.stations.StationReading.{StationReading}
 use Rattle.site.specs.declared.stations.StationReading.the-variants.{Density, FlowAndSpeed, Speed}
 use Rattle.site.specs.declared.stations.Estimate.{Estimate}

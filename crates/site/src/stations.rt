@@ -47,9 +47,9 @@ fn bad_number(x: f64) -> bool
 fn bad_pair(flow: f64, speed: f64) -> bool
     ensures { λ b. ⌜ b ≡ badGiven (StationReading.FlowAndSpeed flow speed) ⌝ }
 {
-    road::either(
+    choice::either(
         bad_number(flow),
-        road::either(bad_number(speed), speed == 0.0),
+        choice::either(bad_number(speed), speed == 0.0),
     )
 }
 
@@ -107,7 +107,7 @@ fn judged(road: Road, reading: StationReading) -> Refusal
 {
     let given = bad_given(reading);
     let fast = too_fast(road, reading);
-    let outside = modes::bad_estimate(road.jam, estimate_of(road, reading));
+    let outside = candidate::bad_estimate(road.jam, estimate_of(road, reading));
     road::judged(road)
         .or_if(given, 16, 0)
         .or_if(fast, 17, 0)

@@ -4,13 +4,13 @@ use Prim.Native.Nat.{ℕ}
 use native.Mathlib.Omega.{arith}
 use lib.Dec.{eqb}
 use borrow.Author.Tests.{eq-eqb, ne-eqb}
-use Rattle.road.specs.Choice.{pick}
+use Rattle.choice.specs.Choice.{pick}
 use Rattle.road.specs.declared.refusal.Refusal.{Refusal}
 use Rattle.welgadou.specs.Parts.{written}
 
 -- what the answer means that was matched is what the call's definition says
-pub told : {A M : Type 0} {a b : A} {defined : M} (meaning : A → M) → a ≡ b → meaning a ≡ defined → meaning b ≡ defined
-told meaning e means = ap meaning (sym e) ∙ means
+pub meaning-along : {A M : Type 0} {a b : A} {defined : M} (meaning : A → M) → a ≡ b → meaning a ≡ defined → meaning b ≡ defined
+meaning-along meaning e means = ap meaning (sym e) ∙ means
 
 -- demand 1 of the answer below holds of the answer that was matched
 pub judged-told : {A : Type 0} {a b : A} (judged : Refusal → Type 0) (refusal : A → Refusal) → a ≡ b → judged (refusal a) → judged (refusal b)
@@ -23,5 +23,5 @@ refusal-counts {number = number} refused not-done answer same z =
     let no = not-done (answer ∙ (rw (eq-eqb number 0 (sym same ∙ z)) refl)) in omega arith
 
 -- and what stands behind a pointer, whatever its type, is its former contents
-pub kept : {C : Type 0} {returned : ℕ} → (returned ≡ 0 → ⊥) → (value former : C) → former ≡ written returned value former
-kept {returned = returned} counts value former = rw (ne-eqb returned 0 counts) refl
+pub former-when-refused : {C : Type 0} {returned : ℕ} → (returned ≡ 0 → ⊥) → (value former : C) → former ≡ written returned value former
+former-when-refused {returned = returned} counts value former = rw (ne-eqb returned 0 counts) refl

@@ -1,5 +1,5 @@
 -- From an answer of Level 1 to what its C call returns and writes.
-use mathlib.Core.Path.{_≡_, _∙_, sym, ap, subst}
+use mathlib.Core.Path.{_≡_, _∙_, sym, ap}
 use mathlib.Core.List.{List}
 use Prim.Native.Nat.{ℕ}
 use lib.ListN.{length}
@@ -18,19 +18,16 @@ use Rattle.forecast.specs.Settle as Settle
 use Rattle.forecast.specs.Settle.{settleAnswer, settleMeaning, SettleJudged}
 use Rattle.welgadou.specs.Parts.{flagOf}
 use Rattle.welgadou.specs.Level1.{Forecasted, SettledRun}
-use Rattle.welgadou.proofs.Answers.{told, judged-told, refusal-counts, kept}
+use Rattle.welgadou.proofs.Answers.{meaning-along, judged-told, refusal-counts, former-when-refused}
 
-module _ {s r : Road} {cells ups downs : List ℕ} {t : ℕ} {out next : List ℕ} {a : ForecastAnswer} (here : s ≡ r) (called : Forecast.Forecasts s cells ups downs t out next a) where
-  forecasts : Forecast.Forecasts r cells ups downs t out next a
-  forecasts = subst (λ (x : Road). Forecast.Forecasts x cells ups downs t out next a) here called
-
+module _ {r : Road} {cells ups downs : List ℕ} {t : ℕ} {out next : List ℕ} {a : ForecastAnswer} (forecasts : Forecast.Forecasts r cells ups downs t out next a) where
   forecast-told : {b : ForecastAnswer} → a ≡ b → ForecastJudged r cells ups downs t (length out) (refused (Forecast.meaning b .number) (Forecast.meaning b .place))
   forecast-told e =
       judged-told (ForecastJudged r cells ups downs t (length out)) (λ (x : ForecastAnswer). refused (Forecast.meaning x .number) (Forecast.meaning x .place)) e (forecasts .judged)
 
   pub forecast-done : {d : Totals} {entered left : ℕ} → a ≡ F.Done d → Forecasted r cells ups downs t out next entered (d .entered) left (d .left) 0 0
   forecast-done e =
-      let m = told Forecast.meaning e (forecasts .means) in
+      let m = meaning-along Forecast.meaning e (forecasts .means) in
       record {
         returned = ap (λ (x : Forecast.Meaning). x .number) m;
         placed = ap (λ (x : Forecast.Meaning). x .place) m;
@@ -45,31 +42,28 @@ module _ {s r : Road} {cells ups downs : List ℕ} {t : ℕ} {out next : List �
   pub forecast-refused : {f : Refusal} {entered left : ℕ} → a ≡ F.Refused f → Forecasted r cells ups downs t out next entered entered left left (f .place) (f .number)
   unfolding forecastAnswer forecastMeaning
   forecast-refused {f} e =
-      let m = told Forecast.meaning e (forecasts .means) in
+      let m = meaning-along Forecast.meaning e (forecasts .means) in
       let counts : f .number ≡ 0 → ⊥ =
       refusal-counts _ (λ q. cc (sym e ∙ q)) (forecasts .answer) (ap (λ (x : Forecast.Meaning). x .number) m) in
       record {
         returned = ap (λ (x : Forecast.Meaning). x .number) m;
         placed = ap (λ (x : Forecast.Meaning). x .place) m;
         output = forecasts .output;
-        entered-written = kept counts _ _;
-        left-written = kept counts _ _;
+        entered-written = former-when-refused counts _ _;
+        left-written = former-when-refused counts _ _;
         judged = forecast-told e;
         demand3 = λ z. absurd (counts z);
         by-faces = λ z. absurd (counts z);
       }
 
-module _ {s r : Road} {cells : List ℕ} {up down t : ℕ} {out next : List ℕ} {a : SettleAnswer} (here : s ≡ r) (called : Settle.Settles s cells up down t out next a) where
-  settles : Settle.Settles r cells up down t out next a
-  settles = subst (λ (x : Road). Settle.Settles x cells up down t out next a) here called
-
+module _ {r : Road} {cells : List ℕ} {up down t : ℕ} {out next : List ℕ} {a : SettleAnswer} (settles : Settle.Settles r cells up down t out next a) where
   settle-told : {b : SettleAnswer} → a ≡ b → SettleJudged r cells up down t (length out) (refused (Settle.meaning b .number) (Settle.meaning b .place))
   settle-told e =
       judged-told (SettleJudged r cells up down t (length out)) (λ (x : SettleAnswer). refused (Settle.meaning x .number) (Settle.meaning x .place)) e (settles .judged)
 
   pub settle-done : {d : Settled} {settled steps flag : ℕ} → a ≡ S.Done d → flag ≡ flagOf (d .settled) → SettledRun r cells up down t out next settled flag steps (d .steps) 0 0
   settle-done {d} e q =
-      let m = told Settle.meaning e (settles .means) in
+      let m = meaning-along Settle.meaning e (settles .means) in
       record {
         returned = ap (λ (x : Settle.Meaning). x .number) m;
         placed = ap (λ (x : Settle.Meaning). x .place) m;
@@ -83,15 +77,15 @@ module _ {s r : Road} {cells : List ℕ} {up down t : ℕ} {out next : List ℕ}
   pub settle-refused : {f : Refusal} {settled steps : ℕ} → a ≡ S.Refused f → SettledRun r cells up down t out next settled settled steps steps (f .place) (f .number)
   unfolding settleAnswer settleMeaning
   settle-refused {f} e =
-      let m = told Settle.meaning e (settles .means) in
+      let m = meaning-along Settle.meaning e (settles .means) in
       let counts : f .number ≡ 0 → ⊥ =
       refusal-counts _ (λ q. cc (sym e ∙ q)) (settles .answer) (ap (λ (x : Settle.Meaning). x .number) m) in
       record {
         returned = ap (λ (x : Settle.Meaning). x .number) m;
         placed = ap (λ (x : Settle.Meaning). x .place) m;
         output = settles .output;
-        settled-written = kept counts _ _;
-        steps-written = kept counts _ _;
+        settled-written = former-when-refused counts _ _;
+        steps-written = former-when-refused counts _ _;
         judged = settle-told e;
         settlement = λ z. absurd (counts z);
       }

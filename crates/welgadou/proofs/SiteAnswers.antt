@@ -11,7 +11,7 @@ use Rattle.site.specs.declared.stations.StationAnswer.the-variants.{Done, Refus
 use Rattle.site.specs.Station as Station
 use Rattle.site.specs.Station.{stationAnswer, stationMeaning, StationJudged}
 use Rattle.welgadou.specs.Level3.{StationEstimated}
-use Rattle.welgadou.proofs.Answers.{told, judged-told, refusal-counts, kept}
+use Rattle.welgadou.proofs.Answers.{meaning-along, judged-told, refusal-counts, former-when-refused}
 
 module _ {r : Road} {x : StationReading} {a : StationAnswer} (called : Station.Stations r x a) where
   station-told : {b : StationAnswer} → a ≡ b → StationJudged r x (refused (Station.meaning b .number) (Station.meaning b .place))
@@ -19,7 +19,7 @@ module _ {r : Road} {x : StationReading} {a : StationAnswer} (called : Station.S
 
   pub station-done : {d : Estimate} {estimate : Float} → a ≡ Done d → StationEstimated r x estimate (d .density) 0 0
   station-done {d} e =
-      let m = told Station.meaning e (called .means) in
+      let m = meaning-along Station.meaning e (called .means) in
       record {
         returned = ap (λ (y : Station.Meaning). y .number) m;
         placed = ap (λ (y : Station.Meaning). y .place) m;
@@ -31,13 +31,13 @@ module _ {r : Road} {x : StationReading} {a : StationAnswer} (called : Station.S
   pub station-refused : {f : Refusal} {estimate : Float} → a ≡ Refused f → StationEstimated r x estimate estimate (f .place) (f .number)
   unfolding stationAnswer stationMeaning
   station-refused {f} e =
-      let m = told Station.meaning e (called .means) in
+      let m = meaning-along Station.meaning e (called .means) in
       let number = ap (λ (y : Station.Meaning). y .number) m in
       let counts : f .number ≡ 0 → ⊥ = refusal-counts _ (λ q. cc (sym e ∙ q)) (called .answer) number in
       record {
         returned = number;
         placed = ap (λ (y : Station.Meaning). y .place) m;
-        estimate-written = kept counts _ _;
+        estimate-written = former-when-refused counts _ _;
         judged = station-told e;
         feeds = λ z. absurd (counts z);
       }

@@ -9,15 +9,16 @@ use lib.ListN.{length}
 use lib.Ieee.{Float, fin}
 use Rattle.road.specs.Table.{refused}
 use Rattle.road.specs.declared.Road.{Road}
-use Rattle.modes.specs.Judging.{readRefusal, predictRefusal}
+use Rattle.modes.specs.Judging.{readRefusal}
+use Rattle.rows.specs.Judging.{predictRefusal}
 use Rattle.floats.specs.Worth.{Worth}
-use Rattle.modes.specs.Modes.{rowValue}
+use Rattle.rows.specs.Rows.{rowValue}
 use Rattle.modes.specs.Reading.{readAnswer, readLetters, readModes, ReadJudged, ReadState}
 use Rattle.modes.specs.Fit.{fitMeaning, FitJudged, FitState}
-use Rattle.modes.specs.Prediction.{predicted, PredictJudged, PredictState}
-use Rattle.modes.specs.Candidate.{candidateMeaning, CandidateJudged, RowWhole, Whole}
-use Rattle.modes.specs.Count.{countMeaning, CountJudged}
-use Rattle.modes.specs.LegalWordsCounted.{LegalWordsCounted}
+use Rattle.rows.specs.Prediction.{predicted, PredictJudged, PredictState}
+use Rattle.candidate.specs.Candidate.{candidateMeaning, CandidateJudged, RowWhole, Whole}
+use Rattle.counting.specs.Count.{countMeaning, CountJudged}
+use Rattle.counting.specs.LegalWordsCounted.{LegalWordsCounted}
 use Rattle.welgadou.specs.Parts.{written, flagOf}
 
 -- welgadou_read: the letters, the modes, the seven counts, the queued cells

@@ -2,9 +2,9 @@
 ghost use Rattle.welgadou.specs.Parts.{roadOf};
 ghost use Rattle.welgadou.specs.Level1.{Forecasted, SettledRun};
 use super::parts::flag;
-use super::parts::road_of;
 use forecast::ForecastAnswer;
 use forecast::SettleAnswer;
+use road::Road;
 
 // 0, with the cells after the horizon's steps in `out`, the units in `entered` and `left` and 0 in `place`; or the
 // refusal's number with its place, and nothing else written.
@@ -26,7 +26,13 @@ pub extern "C" fn welgadou_forecast(
 ) -> u32
     ensures { λ n. ⌜ Forecasted (roadOf divisor free wave jam critical) (now (cells .entry)) (now (upstream .entry)) (now (downstream .entry)) horizon (now (out .entry)) (now (out .exit)) (now (entered .entry)) (now (entered .exit)) (now (left .entry)) (now (left .exit)) (now (place .exit)) n ⌝ }
 {
-    let road = road_of(divisor, free, wave, jam, critical);
+    let road = Road {
+        divisor,
+        free,
+        wave,
+        jam,
+        critical,
+    };
     match forecast::forecast(road, cells, upstream, downstream, horizon, out) {
         ForecastAnswer::Done(t) => {
             *entered = t.entered;
@@ -61,7 +67,13 @@ pub extern "C" fn welgadou_settle(
 ) -> u32
     ensures { λ n. ⌜ SettledRun (roadOf divisor free wave jam critical) (now (cells .entry)) upstream downstream horizon (now (out .entry)) (now (out .exit)) (now (settled .entry)) (now (settled .exit)) (now (steps .entry)) (now (steps .exit)) (now (place .exit)) n ⌝ }
 {
-    let road = road_of(divisor, free, wave, jam, critical);
+    let road = Road {
+        divisor,
+        free,
+        wave,
+        jam,
+        critical,
+    };
     match forecast::settle(road, cells, upstream, downstream, horizon, out) {
         SettleAnswer::Done(s) => {
             *settled = flag(s.settled);

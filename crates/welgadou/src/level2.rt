@@ -3,12 +3,12 @@ ghost use Rattle.welgadou.specs.Parts.{roadOf};
 ghost use Rattle.welgadou.specs.Level2.{StateRead, WordFitted, RowsPredicted, CandidatePredicted, WordsCounted};
 use super::parts::flag;
 use super::parts::mode_byte;
-use super::parts::road_of;
-use modes::CandidateAnswer;
-use modes::CountAnswer;
+use candidate::CandidateAnswer;
+use counting::CountAnswer;
 use modes::FitAnswer;
-use modes::PredictAnswer;
 use modes::ReadAnswer;
+use road::Road;
+use rows::PredictAnswer;
 
 // 0, with the letters in `letters`, the modes in `modes`, the seven counts behind `counts`, the queued cells in `queued`
 // and 0 in `place`; or the refusal's number with its place, and nothing else written.
@@ -30,7 +30,13 @@ pub extern "C" fn welgadou_read(
 ) -> u32
     ensures { λ n. ⌜ StateRead (roadOf divisor free wave jam critical) (now (cells .entry)) upstream downstream (now (letters .entry)) (now (letters .exit)) (now (modes .entry)) (now (modes .exit)) (now (counts .entry)) (now (counts .exit)) (now (queued .entry)) (now (queued .exit)) (now (place .exit)) n ⌝ }
 {
-    let road = road_of(divisor, free, wave, jam, critical);
+    let road = Road {
+        divisor,
+        free,
+        wave,
+        jam,
+        critical,
+    };
     let reading = modes::read(road, cells, upstream, downstream, letters, modes);
     let answer = reading.answer;
     match answer {
@@ -68,7 +74,13 @@ pub extern "C" fn welgadou_fit(
 ) -> u32
     ensures { λ n. ⌜ WordFitted (roadOf divisor free wave jam critical) (now (cells .entry)) upstream downstream (now (word .entry)) (now (holds .entry)) (now (holds .exit)) (now (face .entry)) (now (face .exit)) (now (place .exit)) n ⌝ }
 {
-    let road = road_of(divisor, free, wave, jam, critical);
+    let road = Road {
+        divisor,
+        free,
+        wave,
+        jam,
+        critical,
+    };
     match modes::fit(road, cells, upstream, downstream, word) {
         FitAnswer::Done(r) => {
             *holds = flag(r.holds);
@@ -101,8 +113,14 @@ pub extern "C" fn welgadou_rows(
 ) -> u32
     ensures { λ n. ⌜ RowsPredicted (roadOf divisor free wave jam critical) (now (cells .entry)) upstream downstream (now (word .entry)) (now (out .entry)) (now (out .exit)) (now (place .exit)) n ⌝ }
 {
-    let road = road_of(divisor, free, wave, jam, critical);
-    match modes::predict(road, cells, upstream, downstream, word, out) {
+    let road = Road {
+        divisor,
+        free,
+        wave,
+        jam,
+        critical,
+    };
+    match rows::predict(road, cells, upstream, downstream, word, out) {
         PredictAnswer::Done => {
             *place = 0;
             0
@@ -132,8 +150,14 @@ pub extern "C" fn welgadou_candidate_2(
 ) -> u32
     ensures { λ n. ⌜ CandidatePredicted (roadOf divisor free wave jam critical) mode left own right (now (numerator .entry)) (now (numerator .exit)) (now (place .exit)) n ⌝ }
 {
-    let road = road_of(divisor, free, wave, jam, critical);
-    match modes::candidate(road, mode_byte(mode), left, own, right) {
+    let road = Road {
+        divisor,
+        free,
+        wave,
+        jam,
+        critical,
+    };
+    match candidate::candidate(road, mode_byte(mode), left, own, right) {
         CandidateAnswer::Done(p) => {
             *numerator = p.numerator;
             *place = 0;
@@ -152,7 +176,7 @@ pub extern "C" fn welgadou_candidate_2(
 pub extern "C" fn welgadou_count(cells: u32, words: &mut u64, place: &mut u32) -> u32
     ensures { λ n. ⌜ WordsCounted cells (now (words .entry)) (now (words .exit)) (now (place .exit)) n ⌝ }
 {
-    match modes::count(cells) {
+    match counting::count(cells) {
         CountAnswer::Done(c) => {
             *words = c.words;
             *place = 0;

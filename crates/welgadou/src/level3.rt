@@ -2,7 +2,6 @@
 ghost use Rattle.site.specs.declared.stations.StationReading.the-variants.{Density, FlowAndSpeed, Speed};
 ghost use Rattle.welgadou.specs.Parts.{roadOf};
 ghost use Rattle.welgadou.specs.Level3.{StationEstimated};
-use super::parts::road_of;
 use road::Road;
 use site::StationAnswer;
 use site::StationReading;
@@ -39,7 +38,13 @@ pub extern "C" fn welgadou_station_density(
 ) -> u32
     ensures { λ n. ⌜ StationEstimated (roadOf divisor free wave jam critical) (Density density) (now (estimate .entry)) (now (estimate .exit)) (now (place .exit)) n ⌝ }
 {
-    let road = road_of(divisor, free, wave, jam, critical);
+    let road = Road {
+        divisor,
+        free,
+        wave,
+        jam,
+        critical,
+    };
     estimated(road, StationReading::Density(density), estimate, place)
 }
 
@@ -59,7 +64,13 @@ pub extern "C" fn welgadou_station_flow(
 ) -> u32
     ensures { λ n. ⌜ StationEstimated (roadOf divisor free wave jam critical) (FlowAndSpeed flow speed) (now (estimate .entry)) (now (estimate .exit)) (now (place .exit)) n ⌝ }
 {
-    let road = road_of(divisor, free, wave, jam, critical);
+    let road = Road {
+        divisor,
+        free,
+        wave,
+        jam,
+        critical,
+    };
     estimated(
         road,
         StationReading::FlowAndSpeed { flow, speed },
@@ -83,6 +94,12 @@ pub extern "C" fn welgadou_station_speed(
 ) -> u32
     ensures { λ n. ⌜ StationEstimated (roadOf divisor free wave jam critical) (Speed speed) (now (estimate .entry)) (now (estimate .exit)) (now (place .exit)) n ⌝ }
 {
-    let road = road_of(divisor, free, wave, jam, critical);
+    let road = Road {
+        divisor,
+        free,
+        wave,
+        jam,
+        critical,
+    };
     estimated(road, StationReading::Speed(speed), estimate, place)
 }

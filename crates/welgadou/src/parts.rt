@@ -1,20 +1,6 @@
-// What the C calls share: the road of five numbers, the flag of an answer, and the byte of a mode.
+// What the C calls share: the flag of an answer, and the byte of a mode.
 ghost use mathlib.Core.Path.{_≡_};
-ghost use Rattle.welgadou.specs.Parts.{roadOf, flagOf, ModeByte};
-use road::Road;
-
-// Internal: the road of the five numbers.
-pub fn road_of(divisor: u32, free: u32, wave: u32, jam: u32, critical: u32) -> Road
-    ensures { λ r. ⌜ r ≡ roadOf divisor free wave jam critical ⌝ }
-{
-    Road {
-        divisor,
-        free,
-        wave,
-        jam,
-        critical,
-    }
-}
+ghost use Rattle.welgadou.specs.Parts.{flagOf, ModeByte};
 
 // Internal: 1 for true, 0 for false.
 pub fn flag(b: bool) -> u32

@@ -19,7 +19,10 @@ returns : tie.Need-returns Inv-loop μ-loop
 returns c =
     let l = c .before .before .before in
     let s = l .before in
-    sym (first-is (s .args .jam) (s .args .xs .now) (l .loop .i) (l .loop .inv .0) (l .loop .inv .1) (λ h. c .if1 .taken))
+    record {
+      at = sym (first-is (s .args .jam) (s .args .xs .now) (l .loop .i) (l .loop .inv .0) (l .loop .inv .1) (λ h. c .if1 .taken));
+      inside = l .loop .inv .0;
+    }
 
 loop-again : tie.Need-loop-again Inv-loop μ-loop
 loop-again c = (search needs, below-more _ _ (c .before .before .before .loop .inv .1) (c .if1 .left))
@@ -28,7 +31,10 @@ returns-2 : tie.Need-returns-2 Inv-loop μ-loop
 returns-2 c =
     let l = c .before in
     let s = l .before in
-    sym (first-is (s .args .jam) (s .args .xs .now) (l .loop .i) (l .loop .inv .0) (l .loop .inv .1) (λ h. absurd (not-le-of-lt h (c .loop-test .left))))
+    record {
+      at = sym (first-is (s .args .jam) (s .args .xs .now) (l .loop .i) (l .loop .inv .0) (l .loop .inv .1) (λ h. absurd (not-le-of-lt h (c .loop-test .left))));
+      inside = l .loop .inv .0;
+    }
 
 pub first-above-spec : {M : Type 1} → statement M
 first-above-spec =

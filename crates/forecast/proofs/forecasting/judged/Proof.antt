@@ -7,7 +7,6 @@ use lib.ListN.{length}
 use Rattle.road.specs.Ceilings.{cellsCeiling, horizonCeiling}
 use Rattle.road.proofs.Parts.{same-number}
 use Rattle.road.proofs.Table.{next-row}
-use Rattle.checks.proofs.First.{first-bound}
 use Rattle.forecast.specs.Forecast.{shapeRefusal, forecastRefusal}
 use Rattle.forecast.proofs.Checked.{shape-stands, shape-short}
 use borrow.Author.Needs.{needs}
@@ -32,34 +31,26 @@ short c =
 add-or-if : tie.Need-add-or-if
 add-or-if c =
     let cell = c .before .before in
-    let s = cell .before .before .before .before .before .before .before in
     let few = short cell .0 in
-    let within = first-bound (s .args .road .jam) (s .args .cells .now) in
-    omega (arith, cell .first-above .ensures)
+    omega (arith, cell .first-above .ensures .inside)
 
 cast-or-if : tie.Need-cast-or-if
 cast-or-if c =
     let cell = c .before .before in
-    let s = cell .before .before .before .before .before .before .before in
     let few = short cell .0 in
-    let within = first-bound (s .args .road .jam) (s .args .cells .now) in
-    omega (arith, cell .first-above .ensures)
+    omega (arith, cell .first-above .ensures .inside)
 
 cast-or-if-2 : tie.Need-cast-or-if-2
 cast-or-if-2 c =
     let up = c .before .before in
-    let s = up .before .before .before .before .before .before .before .before in
     let few = short (up .before) .1 .0 in
-    let within = first-bound (s .args .road .jam) (s .args .upstream .now) in
-    omega (arith, up .first-above2 .ensures)
+    omega (arith, up .first-above2 .ensures .inside)
 
 cast-or-if-3 : tie.Need-cast-or-if-3
 cast-or-if-3 c =
     let down = c .before .before in
-    let s = down .before .before .before .before .before .before .before .before .before in
     let few = short (down .before .before) .1 .1 in
-    let within = first-bound (s .args .road .jam) (s .args .downstream .now) in
-    omega (arith, down .first-above3 .ensures)
+    omega (arith, down .first-above3 .ensures .inside)
 
 returns-2 : tie.Need-returns-2
 unfolding shapeRefusal forecastRefusal
@@ -74,12 +65,12 @@ returns-2 c =
     ∙ next-row 10
     (c .before .before .or-if .ensures
     ∙ next-row 9 (cell .before .before .before .judged-shape .ensures)
-    (ap (λ (k : ℕ). ltb k (length (s .args .cells .now))) (cell .first-above .ensures))
-    (ap (λ (k : ℕ). k + 1) (cell .first-above .ensures)))
-    (ap (λ (k : ℕ). ltb k (length (s .args .upstream .now))) (up .first-above2 .ensures))
-    (up .first-above2 .ensures))
-    (ap (λ (k : ℕ). ltb k (length (s .args .downstream .now))) (down .first-above3 .ensures))
-    (down .first-above3 .ensures)
+    (ap (λ (k : ℕ). ltb k (length (s .args .cells .now))) (cell .first-above .ensures .at))
+    (ap (λ (k : ℕ). k + 1) (cell .first-above .ensures .at)))
+    (ap (λ (k : ℕ). ltb k (length (s .args .upstream .now))) (up .first-above2 .ensures .at))
+    (up .first-above2 .ensures .at))
+    (ap (λ (k : ℕ). ltb k (length (s .args .downstream .now))) (down .first-above3 .ensures .at))
+    (down .first-above3 .ensures .at)
 
 pub judged-spec : {M : Type 1} → statement M
 judged-spec =

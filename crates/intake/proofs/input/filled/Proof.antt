@@ -1,5 +1,5 @@
 -- `intake::filled` is safe and ends: every read that goes on brings a byte. Its count is within the buffer.
-use Rattle.request.proofs.Prefix.{counts}
+use Rattle.printing.proofs.Prefix.{prefix-counts}
 use mathlib.Core.Path.{_≡_}
 use Prim.Native.Nat.{_-_, _≤_}
 use lib.ListN.{length}
@@ -14,10 +14,10 @@ abbrev μ-loop : tie.MeasureT-loop
 μ-loop fd path buf₀ n₀ buf n = length buf - n
 
 returns : tie.Need-returns Inv-loop μ-loop
-returns c = counts _ _ (search needs)
+returns c = prefix-counts _ _ (search needs)
 
 returns-2 : tie.Need-returns-2 Inv-loop μ-loop
-returns-2 c = counts _ _ (search needs)
+returns-2 c = prefix-counts _ _ (search needs)
 
 pub filled-spec : {M : Type 1} → statement M
 filled-spec =

@@ -1,14 +1,14 @@
--- `modes::first_misfit` meets its contract: the loop keeps `Comparing`, and the last face stands below it.
+-- `modes::first_misfit` meets its contract: the loop keeps `WordCompared`, and the last face stands below it.
 use Prim.Native.Nat.{_-_}
 use native.Mathlib.Omega.{arith}
 use borrow.Author.Needs.{needs}
 use lib.ListN.{length}
-use Rattle.modes.proofs.Misfits.{Comparing, begins, differs, turns, ends-off, ends-on}
+use Rattle.modes.proofs.Misfits.{WordCompared, begins, differs, turns, ends-off, ends-on}
 use Rattle.modes.proofs.fitting.first_misfit.Statement.{statement}
 use Rattle.modes.proofs.fitting.first_misfit.Tie as tie
 
 abbrev Inv-loop : tie.InvT-loop
-Inv-loop road cells up down word left₀ i₀ left i = Comparing road up down cells word left i
+Inv-loop road cells up down word left₀ i₀ left i = WordCompared road up down cells word left i
 
 abbrev μ-loop : tie.MeasureT-loop
 μ-loop road cells up down word left₀ i₀ left i = length cells - i

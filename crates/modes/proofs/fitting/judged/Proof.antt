@@ -1,7 +1,8 @@
 -- `modes::judged` of the fit test meets its contract: a refusal of the shape stands, and below it the pair and the word are judged.
 use lib.ListN.{length}
 use Rattle.road.proofs.Parts.{same-number, part-goes-on}
-use Rattle.modes.specs.Judging.{pairWordRows, fitShapeRows, fitRefusal}
+use Rattle.words.specs.Judging.{pairWordRows}
+use Rattle.modes.specs.Judging.{fitShapeRows, fitRefusal}
 use Rattle.modes.specs.Fit.{fitShapeRefusal}
 use Rattle.modes.proofs.FitAnswers.{shape-stands, shape-short}
 use borrow.Author.Needs.{needs}

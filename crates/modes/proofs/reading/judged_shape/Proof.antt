@@ -1,6 +1,6 @@
 -- `modes::judged_shape` of the reading meets its contract: below the road's rows, row by row; row 8 judges both outputs.
 use mathlib.Core.Path.{_∙_, refl, ap₂}
-use Rattle.road.specs.Choice.{or}
+use Rattle.choice.specs.Choice.{or}
 use Rattle.road.specs.Judgement.{roadRefusal}
 use Rattle.road.proofs.Table.{next-row}
 use Rattle.modes.specs.Reading.{readShapeRefusal}

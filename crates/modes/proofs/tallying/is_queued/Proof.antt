@@ -1,7 +1,7 @@
 -- `modes::is_queued` meets its contract: the mode is 1, or 2, or 3.
 use mathlib.Core.Path.{_∙_, ap}
 use lib.Dec.{eqb}
-use Rattle.road.specs.Choice.{or}
+use Rattle.choice.specs.Choice.{or}
 use borrow.Author.Needs.{needs}
 use Rattle.modes.proofs.tallying.is_queued.Statement.{statement}
 use Rattle.modes.proofs.tallying.is_queued.Tie as tie

@@ -1,12 +1,12 @@
 -- `request::shades` has the length that it says: a repeat's, by the law and not by counting.
 use Prim.Native.Nat.{_+_, _*_}
 use Rattle.road.specs.Ceilings.{cellsCeiling, horizonCeiling}
-use Rattle.request.proofs.Prefix.{repeated}
+use Rattle.printing.proofs.Prefix.{repeat-length}
 use Rattle.request.proofs.buffers.shades.Statement.{statement}
 use Rattle.request.proofs.buffers.shades.Tie as tie
 
 returns : tie.Need-returns
-returns c = repeated (cellsCeiling * (horizonCeiling + 1)) 0
+returns c = repeat-length (cellsCeiling * (horizonCeiling + 1)) 0
 
 pub shades-spec : {M : Type 1} → statement M
 shades-spec = tie.close (tie.spec returns)

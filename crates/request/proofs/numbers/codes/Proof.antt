@@ -1,5 +1,5 @@
 -- `request::codes` of the numbers is safe, and counts what its output holds.
-use Rattle.request.proofs.Prefix.{counts}
+use Rattle.printing.proofs.Prefix.{prefix-counts}
 use mathlib.Core.Path.{_≡_}
 use Prim.Native.Nat.{_-_, _≤_}
 use lib.ListN.{length}
@@ -14,7 +14,7 @@ abbrev μ-loop : tie.MeasureT-loop
 μ-loop values n out₀ m i₀ out i = m - i
 
 returns : tie.Need-returns Inv-loop μ-loop
-returns c = counts _ _ (search needs)
+returns c = prefix-counts _ _ (search needs)
 
 pub codes-spec : {M : Type 1} → statement M
 codes-spec =

@@ -1,14 +1,14 @@
 -- `request::faces` is a length of a prefix.
-use Rattle.request.proofs.Prefix.{counts}
+use Rattle.printing.proofs.Prefix.{prefix-counts}
 use borrow.Author.Needs.{needs}
 use Rattle.request.proofs.numbers.faces.Statement.{statement}
 use Rattle.request.proofs.numbers.faces.Tie as tie
 
 returns : tie.Need-returns
-returns c = counts _ _ (search needs)
+returns c = prefix-counts _ _ (search needs)
 
 returns-2 : tie.Need-returns-2
-returns-2 c = counts _ _ (search needs)
+returns-2 c = prefix-counts _ _ (search needs)
 
 pub faces-spec : {M : Type 1} → statement M
 faces-spec = tie.close (tie.spec (λ c. search needs) returns returns-2)

@@ -1,7 +1,7 @@
 -- `road::bad_densities` meets its contract: the test of J, or that of C.
 use mathlib.Core.Path.{_∙_, ap, ap₂}
 use Prim.Native.Nat.{ℕ}
-use Rattle.road.specs.Choice.{or}
+use Rattle.choice.specs.Choice.{or}
 use Rattle.road.specs.Judgement.{outside}
 use borrow.Author.Needs.{needs}
 use Rattle.road.proofs.judgement.bad_densities.Statement.{statement}

@@ -1,6 +1,6 @@
 -- `road::bad_speeds` meets its contract: the test of p, or that of q.
 use mathlib.Core.Path.{_∙_, ap₂}
-use Rattle.road.specs.Choice.{or}
+use Rattle.choice.specs.Choice.{or}
 use borrow.Author.Needs.{needs}
 use Rattle.road.proofs.judgement.bad_speeds.Statement.{statement}
 use Rattle.road.proofs.judgement.bad_speeds.Tie as tie

@@ -1,20 +1,18 @@
--- `road_a::long` is safe: both prefixes lie within their arrays.
-use Prim.Native.Nat.{_+_}
-use Rattle.road.specs.Ceilings.{cellsCeiling}
-use Rattle.road_a.proofs.Prefix.{prefix}
+-- `settlings::long` is safe: every prefix lies within its array.
+use Rattle.printing.proofs.Prefix.{prefix-length}
 use borrow.Author.Needs.{needs}
 use Rattle.road_a.proofs.settlings.long.Statement.{statement}
 use Rattle.road_a.proofs.settlings.long.Tie as tie
 
 slice-aggregate-show : tie.Need-slice-aggregate-show
-slice-aggregate-show c = prefix _ (cellsCeiling + 1) _ (c .before .before .before .cells .ensures) (search needs)
+slice-aggregate-show c = prefix-length _ _ (search needs)
 
 slice-aggregate-show-2 : tie.Need-slice-aggregate-show-2
-slice-aggregate-show-2 c = prefix _ (cellsCeiling + 1) _ (c .before .before .before .cells2 .ensures) (search needs)
+slice-aggregate-show-2 c = prefix-length _ _ (search needs)
 
 pub long-spec : {M : Type 1} → statement M
 long-spec =
     tie.close
-    (tie.spec (λ c κs. search needs) (λ c κs. search needs) (λ c. search needs) slice-aggregate-show
-    (λ c. search needs) slice-aggregate-show-2 (λ c κs. search needs) (λ c. search needs)
-    (λ c. search needs))
+    (tie.spec (λ c κs. search needs) (λ c κs. search needs) (λ c κs. search needs) (λ c. search needs)
+    slice-aggregate-show (λ c. search needs) slice-aggregate-show-2 (λ c κs. search needs)
+    (λ c. search needs) (λ c. search needs))

@@ -2,15 +2,12 @@
 use mathlib.Core.Path.{sym}
 use borrow.Author.Needs.{needs}
 use lib.Seq.{length-take-le}
-use Rattle.scenario.proofs.Headed.{stop-inside, word-within, head-is}
+use Rattle.scenario.proofs.Headed.{word-within, head-is}
 use Rattle.scenario.proofs.finding.head_of.Statement.{statement}
 use Rattle.scenario.proofs.finding.head_of.Tie as tie
 
 slice-aggregate-first-word : tie.Need-slice-aggregate-first-word
-slice-aggregate-first-word c =
-    let p = c .before in
-    let line = p .before .before .args .line .now in
-    sym (length-take-le (p .piece-end .result) line (stop-inside line (p .piece-end .result) (p .piece-end .ensures)))
+slice-aggregate-first-word c = let p = c .before in sym (length-take-le (p .piece-end .result) (p .before .before .args .line .now) (p .piece-end .ensures .inside))
 
 first-key-requires : tie.Need-first-key-requires
 first-key-requires c κs =

@@ -1,12 +1,10 @@
 -- `scenario::line_of` meets its contract: the loop keeps `Sought`.
-use Prim.Native.Nat.{_≤_, _-_}
-use native.Mathlib.Omega.{arith}
+use Prim.Native.Nat.{_-_}
 use borrow.Author.Needs.{needs}
 use lib.ListN.{length}
-use Rattle.scenario.specs.Pieces.{newline}
-use Rattle.scenario.proofs.Cutting.{part, inside}
+use Rattle.scenario.proofs.Cutting.{part}
 use Rattle.scenario.proofs.Headed.{head-key}
-use Rattle.scenario.proofs.Midway.{Sought, line-begins, line-found, line-turns, line-ends}
+use Rattle.scenario.proofs.Loops.{Sought, line-begins, line-found, line-turns, line-ends}
 use Rattle.scenario.proofs.finding.line_of.Statement.{statement}
 use Rattle.scenario.proofs.finding.line_of.Tie as tie
 
@@ -16,28 +14,11 @@ Inv-loop text key line₀ at₀ line at = Sought text key line at
 abbrev μ-loop : tie.MeasureT-loop
 μ-loop text key line₀ at₀ line at = length text - at
 
--- the piece lies in the text
-within : (c : tie.After-piece-end Inv-loop μ-loop)
-    → let l = c .before .before in
-    (l .loop .at ≤ c .piece-end .result) × (c .piece-end .result ≤ length (l .before .before .args .text .now))
-within c =
-    let l = c .before .before in
-    inside newline (l .before .before .args .text .now) (l .loop .at) (c .piece-end .result) (c .before .loop-test .taken) (c .piece-end .ensures)
-
-sub-head-of : tie.Need-sub-head-of Inv-loop μ-loop
-sub-head-of c = within c .0
-
-part-head-of-start : tie.Need-part-head-of-start Inv-loop μ-loop
-part-head-of-start c = within c .0
-
-part-head-of-end : tie.Need-part-head-of-end Inv-loop μ-loop
-part-head-of-end c = within c .1
-
 loop-holds : tie.Need-loop-holds Inv-loop μ-loop
 loop-holds c = let a = c .before .args in line-begins (a .text .now) (a .key)
 
 add-line : tie.Need-add-line Inv-loop μ-loop
-add-line c = let few = c .before .before .loop .inv .few in let w = within c in search needs
+add-line c = let few = c .before .before .loop .inv .few in search needs
 
 returns : tie.Need-returns Inv-loop μ-loop
 returns c =
@@ -48,15 +29,6 @@ returns c =
     line-found (a .text .now) (l .loop .at) (p .piece-end .result) (p .before .loop-test .taken) (p .piece-end .ensures)
     (a .key) (l .loop .line) (h .result .key)
     (head-key (part (l .loop .at) (p .piece-end .result) (a .text .now)) (h .result) (h .ensures)) (l .loop .inv) (c .if1 .taken)
-
-add-at : tie.Need-add-at Inv-loop μ-loop
-add-at c = let w = within (c .before .before .before .before) in search needs
-
-loop-less : tie.Need-loop-less Inv-loop μ-loop
-loop-less c =
-    let p = c .before .before .before .before in
-    let w = within p in
-    omega (arith, p .before .loop-test .taken)
 
 loop-again : tie.Need-loop-again Inv-loop μ-loop
 loop-again c =
@@ -77,5 +49,5 @@ returns-2 c =
 pub line-of-spec : {M : Type 1} → statement M
 line-of-spec =
     tie.close
-    (tie.spec Inv-loop μ-loop loop-holds (λ c κs. search needs) add-line sub-head-of part-head-of-start
-    part-head-of-end (λ c κs. search needs) returns add-at loop-less loop-again returns-2)
+    (tie.spec Inv-loop μ-loop loop-holds (λ c κs. search needs) add-line (λ c. search needs) (λ c. search needs)
+    (λ c. search needs) (λ c κs. search needs) returns (λ c. search needs) (λ c. search needs) loop-again returns-2)

@@ -1,15 +1,12 @@
 -- `scenario::judge` meets its contract: the loop keeps `Faultless`.
 use mathlib.Core.Path.{_∙_, refl}
-use Prim.Native.Nat.{_≤_, _-_}
-use native.Mathlib.Omega.{arith}
+use Prim.Native.Nat.{_-_}
 use borrow.Author.Needs.{needs}
 use lib.ListN.{length}
 use borrow.Author.Tests.{eq-eqb}
-use Rattle.scenario.specs.Pieces.{newline}
 use Rattle.scenario.specs.Judging.{atStart, verdict}
-use Rattle.scenario.proofs.Cutting.{inside}
 use Rattle.scenario.proofs.Judged.{verdict-is}
-use Rattle.scenario.proofs.Midway.{Faultless, judge-begins, judge-found, judge-turns, judge-ends}
+use Rattle.scenario.proofs.Loops.{Faultless, judge-begins, judge-found, judge-turns, judge-ends}
 use Rattle.scenario.proofs.judging.judge.Statement.{statement}
 use Rattle.scenario.proofs.judging.judge.Tie as tie
 
@@ -18,23 +15,6 @@ Inv-loop text p₀ at₀ p at = Faultless text p at
 
 abbrev μ-loop : tie.MeasureT-loop
 μ-loop text p₀ at₀ p at = length text - at
-
--- the piece lies in the text
-within : (c : tie.After-piece-end Inv-loop μ-loop)
-    → let l = c .before .before in
-    (l .loop .at ≤ c .piece-end .result) × (c .piece-end .result ≤ length (l .before .before .before .args .text .now))
-within c =
-    let l = c .before .before in
-    inside newline (l .before .before .before .args .text .now) (l .loop .at) (c .piece-end .result) (c .before .loop-test .taken) (c .piece-end .ensures)
-
-sub-judge-line : tie.Need-sub-judge-line Inv-loop μ-loop
-sub-judge-line c = within c .0
-
-part-judge-line-start : tie.Need-part-judge-line-start Inv-loop μ-loop
-part-judge-line-start c = within c .0
-
-part-judge-line-end : tie.Need-part-judge-line-end Inv-loop μ-loop
-part-judge-line-end c = within c .1
 
 returns : tie.Need-returns Inv-loop μ-loop
 unfolding verdict
@@ -47,7 +27,6 @@ loop-holds c = judge-begins (c .before .before .args .text .now)
 judge-line-requires : tie.Need-judge-line-requires Inv-loop μ-loop
 judge-line-requires c κs =
     let few = c .before .before .before .loop .inv .few in
-    let w = within (c .before) in
     search needs
 
 returns-2 : tie.Need-returns-2 Inv-loop μ-loop
@@ -61,15 +40,6 @@ returns-2 c =
     ∙ verdict-is text (q .result) (l .before .if1 .left)
     (judge-found text (l .loop .at) (p .piece-end .result) (p .before .loop-test .taken) (p .piece-end .ensures)
     (l .loop .p) (q .result) (q .ensures) (l .loop .inv) (t .if2 .taken))
-
-add-at : tie.Need-add-at Inv-loop μ-loop
-add-at c = let w = within (c .before .before .before .before) in search needs
-
-loop-less : tie.Need-loop-less Inv-loop μ-loop
-loop-less c =
-    let p = c .before .before .before .before in
-    let w = within p in
-    omega (arith, p .before .loop-test .taken)
 
 loop-again : tie.Need-loop-again Inv-loop μ-loop
 loop-again c =
@@ -90,6 +60,6 @@ returns-3 c =
 pub judge-spec : {M : Type 1} → statement M
 judge-spec =
     tie.close
-    (tie.spec Inv-loop μ-loop returns loop-holds (λ c κs. search needs) sub-judge-line part-judge-line-start
-    part-judge-line-end judge-line-requires (λ c κs. search needs) returns-2 add-at loop-less loop-again
+    (tie.spec Inv-loop μ-loop returns loop-holds (λ c κs. search needs) (λ c. search needs) (λ c. search needs)
+    (λ c. search needs) judge-line-requires (λ c κs. search needs) returns-2 (λ c. search needs) (λ c. search needs) loop-again
     (λ c κs. search needs) returns-3)

@@ -2,8 +2,8 @@
 use Prim.Native.Nat.{_<_, _+_}
 use native.Mathlib.Omega.{arith}
 use borrow.Author.Needs.{needs}
-use Rattle.scenario.specs.Pieces.{words}
-use Rattle.scenario.specs.Keys.{keyCount}
+use Rattle.vocabulary.specs.Pieces.{words}
+use Rattle.vocabulary.specs.Keys.{keyCount}
 use Rattle.scenario.proofs.Headed.{head-key, key-small}
 use Rattle.scenario.proofs.Judged.{judged-is}
 use Rattle.scenario.proofs.judging.judge_line.Statement.{statement}

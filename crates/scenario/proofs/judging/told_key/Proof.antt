@@ -1,7 +1,7 @@
 -- `scenario::told_key` meets its contract: at each `return` the test says which case holds.
 use mathlib.Core.Path.{refl}
 use borrow.Author.Tests.{eq-eqb, ne-eqb}
-use Rattle.scenario.specs.Keys.{noKey}
+use Rattle.vocabulary.specs.Keys.{noKey}
 use Rattle.scenario.proofs.judging.told_key.Statement.{statement}
 use Rattle.scenario.proofs.judging.told_key.Tie as tie
 

@@ -1,8 +1,9 @@
 -- `scenario::wrong_after` meets its contract: at each `return` the tests that led there say which case holds.
-use mathlib.Core.Path.{sym, refl, _∙_}
+use mathlib.Core.Path.{sym, refl, ap, _∙_}
 use borrow.Author.Needs.{needs}
 use borrow.Author.Tests.{eq-eqb, ne-eqb}
-use Rattle.scenario.specs.Keys.{noKey}
+use Rattle.vocabulary.specs.Keys.{noKey}
+use Rattle.vocabulary.specs.declared.keys.Key.{Key}
 use Rattle.scenario.proofs.judging.wrong_after.Statement.{statement}
 use Rattle.scenario.proofs.judging.wrong_after.Tie as tie
 
@@ -28,7 +29,7 @@ returns-4 c =
     let e = o .before in
     let k = e .before in
     let a = k .before .args in
-    rw (ne-eqb (a .key) noKey (k .if1 .left), e .if2 .left, eq-eqb (a .own) 0 (o .if3 .left), sym (l .is-list .ensures) ∙ c .if4 .taken) refl
+    rw (ne-eqb (a .key) noKey (k .if1 .left), e .if2 .left, eq-eqb (a .own) 0 (o .if3 .left), ap (λ (key : Key). key .list) (sym (l .key-of .ensures)) ∙ c .if4 .taken) refl
 
 returns-5 : tie.Need-returns-5
 returns-5 c =
@@ -38,7 +39,7 @@ returns-5 c =
     let e = o .before in
     let k = e .before in
     let a = k .before .args in
-    rw (ne-eqb (a .key) noKey (k .if1 .left), e .if2 .left, eq-eqb (a .own) 0 (o .if3 .left), sym (l .is-list .ensures) ∙ n .if4 .left, c .if5 .taken) refl
+    rw (ne-eqb (a .key) noKey (k .if1 .left), e .if2 .left, eq-eqb (a .own) 0 (o .if3 .left), ap (λ (key : Key). key .list) (sym (l .key-of .ensures)) ∙ n .if4 .left, c .if5 .taken) refl
 
 returns-6 : tie.Need-returns-6
 returns-6 c =
@@ -48,7 +49,7 @@ returns-6 c =
     let e = o .before in
     let k = e .before in
     let a = k .before .args in
-    rw (ne-eqb (a .key) noKey (k .if1 .left), e .if2 .left, eq-eqb (a .own) 0 (o .if3 .left), sym (l .is-list .ensures) ∙ n .if4 .left, c .if5 .left) refl
+    rw (ne-eqb (a .key) noKey (k .if1 .left), e .if2 .left, eq-eqb (a .own) 0 (o .if3 .left), ap (λ (key : Key). key .list) (sym (l .key-of .ensures)) ∙ n .if4 .left, c .if5 .left) refl
 
 pub wrong-after-spec : {M : Type 1} → statement M
 wrong-after-spec =

@@ -3,8 +3,8 @@ use mathlib.Core.Path.{_∙_, ap, sym}
 use mathlib.Core.Bool.{Bool}
 use Prim.Native.Nat.{ℕ}
 use borrow.Author.Needs.{needs}
-use Rattle.road.specs.Choice.{pick}
-use Rattle.scenario.specs.Pieces.{wordsIn}
+use Rattle.choice.specs.Choice.{pick}
+use Rattle.vocabulary.specs.Pieces.{wordsIn}
 use Rattle.scenario.specs.Judging.{wrongValue}
 use Rattle.scenario.proofs.Judged.{values-wrong}
 use Rattle.scenario.proofs.judging.wrong_values.Statement.{statement}

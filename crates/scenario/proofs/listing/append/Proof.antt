@@ -1,14 +1,14 @@
--- `scenario::append` meets its contract: the loop keeps `Underway` for the value as often as it is still to be stored.
+-- `scenario::append` meets its contract: the loop keeps `ValuesStored` for the value as often as it is still to be stored.
 use borrow.Author.Needs.{needs}
 use native.Mathlib.Omega.{arith}
 use Rattle.scenario.specs.Values.{repeated}
-use Rattle.scenario.proofs.Storing.{Underway, begins, turns, ends, stops, stored-one}
+use Rattle.scenario.proofs.Storing.{ValuesStored, begins, turns, ends, stops, stored-one}
 use Rattle.scenario.proofs.Folds.{repeated-none, repeated-more}
 use Rattle.scenario.proofs.listing.append.Statement.{statement}
 use Rattle.scenario.proofs.listing.append.Tie as tie
 
 abbrev Inv-loop : tie.InvT-loop
-Inv-loop start filled value times at₀ left₀ out at left = Underway (repeated left value) (repeated times value) filled start out at
+Inv-loop start filled value times at₀ left₀ out at left = ValuesStored (repeated left value) (repeated times value) filled start out at
 
 abbrev μ-loop : tie.MeasureT-loop
 μ-loop start filled value times at₀ left₀ out at left = left

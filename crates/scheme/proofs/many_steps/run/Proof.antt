@@ -1,16 +1,16 @@
--- `scheme::run` meets its contract: the loop keeps `Underway`.
+-- `scheme::run` meets its contract: the loop keeps `RunUnderway`.
 use Prim.Native.Nat.{_+_, _-_}
 use native.Mathlib.Omega.{arith}
 use borrow.Author.Needs.{needs}
 use lib.ListN.{length}
 use Rattle.scheme.specs.Rounded.{moved}
 use Rattle.scheme.proofs.Laws.{lawful, ready-again}
-use Rattle.scheme.proofs.Underway.{Underway, begins, turns, ends}
+use Rattle.scheme.proofs.Underway.{RunUnderway, begins, turns, ends}
 use Rattle.scheme.proofs.many_steps.run.Statement.{statement}
 use Rattle.scheme.proofs.many_steps.run.Tie as tie
 
 abbrev Inv-loop : tie.InvT-loop
-Inv-loop pace cells₀ ups downs entered₀ left₀ t₀ cells entered left t = Underway (pace .road .jam) (λ s. moved (pace .road)) ups downs cells₀ cells entered left t
+Inv-loop pace cells₀ ups downs entered₀ left₀ t₀ cells entered left t = RunUnderway (pace .road .jam) (λ s. moved (pace .road)) ups downs cells₀ cells entered left t
 
 abbrev μ-loop : tie.MeasureT-loop
 μ-loop pace cells₀ ups downs entered₀ left₀ t₀ cells entered left t = length ups - t
@@ -28,7 +28,7 @@ step-requires c κs =
 
 -- a step made: the next turn of the loop, whose sums are small
 again : (c : tie.After-step Inv-loop μ-loop) → let l = c .before .before .before .before .before in let s = l .before .before .before .before in
-    Underway (s .args .pace .road .jam) (λ t. moved (s .args .pace .road)) (s .args .upstream .now) (s .args .downstream .now) (s .args .cells .now)
+    RunUnderway (s .args .pace .road .jam) (λ t. moved (s .args .pace .road)) (s .args .upstream .now) (s .args .downstream .now) (s .args .cells .now)
     (c .step .last .1 .0) (l .loop .entered + c .step .result .entered) (l .loop .left + c .step .result .left) (l .loop .t + 1)
 again c =
     let l = c .before .before .before .before .before in

@@ -1,4 +1,4 @@
--- `scheme::step` meets its contract: the loop keeps `Midway`, and its end is the whole step.
+-- `scheme::step` meets its contract: the loop keeps `StepUnderway`, and its end is the whole step.
 use Prim.Native.Nat.{_+_, _-_}
 use native.Mathlib.Omega.{arith}
 use borrow.Author.Needs.{needs}
@@ -6,12 +6,12 @@ use lib.ListN.{length, getD, length-set}
 use Rattle.scheme.specs.Rounded.{moved}
 use Rattle.scheme.proofs.Range.{out-holds}
 use Rattle.scheme.proofs.Laws.{lawful}
-use Rattle.scheme.proofs.InPlace.{Midway, begins, turns, ends}
+use Rattle.scheme.proofs.InPlace.{StepUnderway, begins, turns, ends}
 use Rattle.scheme.proofs.one_step.step.Statement.{statement}
 use Rattle.scheme.proofs.one_step.step.Tie as tie
 
 abbrev Inv-loop : tie.InvT-loop
-Inv-loop pace x₀ up down n first inflow₀ i₀ x inflow i = Midway (pace .road .jam) (moved (pace .road)) up down x₀ first x i inflow
+Inv-loop pace x₀ up down n first inflow₀ i₀ x inflow i = StepUnderway (pace .road .jam) (moved (pace .road)) up down x₀ first x i inflow
 
 abbrev μ-loop : tie.MeasureT-loop
 μ-loop pace x₀ up down n first inflow₀ i₀ x inflow i = length x - i

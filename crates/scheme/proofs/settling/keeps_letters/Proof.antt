@@ -1,4 +1,4 @@
--- `scheme::keeps_letters` meets its contract: the loop keeps `Comparing`.
+-- `scheme::keeps_letters` meets its contract: the loop keeps `LettersCompared`.
 use mathlib.Core.Path.{_∙_, sym}
 use Prim.Native.Nat.{_+_, _-_}
 use native.Mathlib.Omega.{arith}
@@ -8,13 +8,13 @@ use lib.ListN.{length, getD}
 use Rattle.scheme.proofs.Ahead.{ahead-below}
 use Rattle.scheme.proofs.Range.{out-holds}
 use Rattle.scheme.proofs.Laws.{lawful}
-use Rattle.scheme.proofs.Stillness.{Comparing, begins, changes, turns, ends}
+use Rattle.scheme.proofs.Stillness.{LettersCompared, begins, changes, turns, ends}
 use Rattle.scheme.proofs.settling.keeps_letters.Statement.{statement}
 use Rattle.scheme.proofs.settling.keeps_letters.Tie as tie
 
 abbrev Inv-loop : tie.InvT-loop
 Inv-loop pace x up down first old-left₀ new-left₀ inflow₀ i₀ old-left new-left inflow i =
-    Comparing (pace .road) up down x old-left new-left inflow i
+    LettersCompared (pace .road) up down x old-left new-left inflow i
 
 abbrev μ-loop : tie.MeasureT-loop
 μ-loop pace x up down first old-left₀ new-left₀ inflow₀ i₀ old-left new-left inflow i = length x - i

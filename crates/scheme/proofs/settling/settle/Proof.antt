@@ -1,4 +1,4 @@
--- `scheme::settle` meets its contract: the loop keeps `Searching`.
+-- `scheme::settle` meets its contract: the loop keeps `StillnessSought`.
 use mathlib.Core.Path.{_∙_, sym}
 use Prim.Native.Nat.{_-_}
 use borrow.Author.Needs.{needs}
@@ -7,13 +7,13 @@ use Rattle.scheme.specs.Settling.{still}
 use Rattle.scheme.proofs.Shape.{stepped-length}
 use Rattle.scheme.proofs.Range.{steps-below}
 use Rattle.scheme.proofs.Laws.{lawful, ready-again}
-use Rattle.scheme.proofs.Settlement.{Searching, begins, turns, settled, unsettled}
+use Rattle.scheme.proofs.Settlement.{StillnessSought, begins, turns, settled, unsettled}
 use Rattle.scheme.proofs.settling.settle.Statement.{statement}
 use Rattle.scheme.proofs.settling.settle.Tie as tie
 
 abbrev Inv-loop : tie.InvT-loop
 Inv-loop pace cells₀ up down horizon steps₀ cells steps =
-    Searching (roundStep (pace .road) up down) (still (pace .road) up down) (pace .road .jam) horizon cells₀ cells steps
+    StillnessSought (roundStep (pace .road) up down) (still (pace .road) up down) (pace .road .jam) horizon cells₀ cells steps
 
 abbrev μ-loop : tie.MeasureT-loop
 μ-loop pace cells₀ up down horizon steps₀ cells steps = horizon - steps

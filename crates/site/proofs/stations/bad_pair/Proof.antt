@@ -1,6 +1,6 @@
 -- `site::bad_pair` meets its contract: one of the three tests holds.
 use mathlib.Core.Path.{_∙_, ap₂, refl}
-use Rattle.road.specs.Choice.{or}
+use Rattle.choice.specs.Choice.{or}
 use Rattle.site.specs.Station.{badGiven}
 use borrow.Author.Needs.{needs}
 use Rattle.site.proofs.stations.bad_pair.Statement.{statement}

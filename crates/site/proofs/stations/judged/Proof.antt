@@ -2,7 +2,7 @@
 use mathlib.Core.Path.{_∙_, refl, sym, ap}
 use Rattle.road.specs.Judgement.{roadRefusal}
 use Rattle.road.proofs.Table.{next-row}
-use Rattle.modes.specs.Candidate.{badEstimate}
+use Rattle.candidate.specs.Candidate.{badEstimate}
 use Rattle.site.specs.Station.{stationRefusal}
 use Rattle.site.proofs.StationAnswers.{bad-result}
 use borrow.Author.Needs.{needs}

@@ -1,5 +1,4 @@
 -- `welgadou_forecast` meets its contract: the answer below, case by case.
-use Rattle.welgadou.specs.Parts.{roadOf}
 use Rattle.welgadou.proofs.ForecastAnswers.{forecast-done, forecast-refused}
 use borrow.Author.Needs.{needs}
 use Rattle.welgadou.proofs.level1.welgadou_forecast.Statement.{statement}
@@ -8,19 +7,15 @@ use Rattle.welgadou.proofs.level1.welgadou_forecast.Tie as tie
 returns : tie.Need-returns
 returns c =
     let called = c .before .before .before .before .before in
-    let given = called .before .before .before .before .before .before .before .args in
-    forecast-done {r = roadOf (given .divisor) (given .free) (given .wave) (given .jam) (given .critical)}
-    (called .before .before .road-of .ensures) (called .forecast .ensures) (c .before .t .given .1)
+    forecast-done (called .forecast .ensures) (c .before .t .given .1)
 
 returns-2 : tie.Need-returns-2
 returns-2 c =
     let called = c .before .before .before .before .before in
-    let given = called .before .before .before .before .before .before .before .args in
-    forecast-refused {r = roadOf (given .divisor) (given .free) (given .wave) (given .jam) (given .critical)}
-    (called .before .before .road-of .ensures) (called .forecast .ensures) (c .before .f .given .1)
+    forecast-refused (called .forecast .ensures) (c .before .f .given .1)
 
 pub welgadou-forecast-spec : {M : Type 1} → statement M
 welgadou-forecast-spec =
     tie.close
-    (tie.spec (λ c κs. search needs) (λ c κs. search needs) (λ c. search needs) (λ c. search needs)
+    (tie.spec (λ c κs. search needs) (λ c. search needs) (λ c. search needs)
     (λ c. search needs) returns (λ c. search needs) returns-2)

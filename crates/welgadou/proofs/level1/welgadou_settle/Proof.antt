@@ -1,5 +1,4 @@
 -- `welgadou_settle` meets its contract: the answer below, case by case.
-use Rattle.welgadou.specs.Parts.{roadOf}
 use Rattle.welgadou.proofs.ForecastAnswers.{settle-done, settle-refused}
 use borrow.Author.Needs.{needs}
 use Rattle.welgadou.proofs.level1.welgadou_settle.Statement.{statement}
@@ -8,19 +7,15 @@ use Rattle.welgadou.proofs.level1.welgadou_settle.Tie as tie
 returns : tie.Need-returns
 returns c =
     let called = c .before .before .before .before .before .before in
-    let given = called .before .before .before .before .before .args in
-    settle-done {r = roadOf (given .divisor) (given .free) (given .wave) (given .jam) (given .critical)}
-    (called .before .before .road-of .ensures) (called .settle .ensures) (c .before .before .s .given .1) (c .flag .ensures)
+    settle-done (called .settle .ensures) (c .before .before .s .given .1) (c .flag .ensures)
 
 returns-2 : tie.Need-returns-2
 returns-2 c =
     let called = c .before .before .before .before .before in
-    let given = called .before .before .before .before .before .args in
-    settle-refused {r = roadOf (given .divisor) (given .free) (given .wave) (given .jam) (given .critical)}
-    (called .before .before .road-of .ensures) (called .settle .ensures) (c .before .f .given .1)
+    settle-refused (called .settle .ensures) (c .before .f .given .1)
 
 pub welgadou-settle-spec : {M : Type 1} → statement M
 welgadou-settle-spec =
     tie.close
-    (tie.spec (λ c κs. search needs) (λ c κs. search needs) (λ c. search needs) (λ c κs. search needs)
+    (tie.spec (λ c κs. search needs) (λ c. search needs) (λ c κs. search needs)
     (λ c. search needs) (λ c. search needs) returns (λ c. search needs) returns-2)

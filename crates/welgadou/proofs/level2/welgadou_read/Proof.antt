@@ -1,5 +1,4 @@
 -- `welgadou_read` meets its contract: the answer below, case by case.
-use Rattle.welgadou.specs.Parts.{roadOf}
 use Rattle.welgadou.proofs.ModeAnswers.{read-done, read-refused}
 use borrow.Author.Needs.{needs}
 use Rattle.welgadou.proofs.level2.welgadou_read.Statement.{statement}
@@ -8,19 +7,15 @@ use Rattle.welgadou.proofs.level2.welgadou_read.Tie as tie
 returns : tie.Need-returns
 returns c =
     let called = c .before .before .before .before .before .before .before .before in
-    let given = called .before .before .before .before .before .before .before .args in
-    read-done {r = roadOf (given .divisor) (given .free) (given .wave) (given .jam) (given .critical)}
-    (called .before .before .before .road-of .ensures) (called .read .ensures) (c .before .before .enum-told .given .1)
+    read-done (called .read .ensures) (c .before .before .enum-told .given .1)
 
 returns-2 : tie.Need-returns-2
 returns-2 c =
     let called = c .before .before .before .before .before .before .before in
-    let given = called .before .before .before .before .before .before .before .args in
-    read-refused {r = roadOf (given .divisor) (given .free) (given .wave) (given .jam) (given .critical)}
-    (called .before .before .before .road-of .ensures) (called .read .ensures) (c .before .answer .given .1)
+    read-refused (called .read .ensures) (c .before .answer .given .1)
 
 pub welgadou-read-spec : {M : Type 1} → statement M
 welgadou-read-spec =
     tie.close
-    (tie.spec (λ c κs. search needs) (λ c κs. search needs) (λ c. search needs) (λ c. search needs)
+    (tie.spec (λ c κs. search needs) (λ c. search needs) (λ c. search needs)
     (λ c. search needs) (λ c. search needs) returns (λ c. search needs) (λ c. search needs) returns-2)

@@ -1,0 +1,2 @@
+-- The theorems of the candidate prediction: its answers.
+pub mod CandidateAnswers

@@ -1,0 +1,2 @@
+-- The definitions of the candidate prediction, and what it promises.
+pub mod Candidate

@@ -1,0 +1,3 @@
+-- What joined tests say, and tests computed over a range.
+pub mod Choice
+pub mod Grid

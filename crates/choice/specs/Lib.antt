@@ -1,0 +1,2 @@
+-- Choices by a test, and tests joined.
+pub mod Choice

@@ -1,2 +1,0 @@
--- Facts on lists that the proofs of programs cite.
-pub mod Prefix

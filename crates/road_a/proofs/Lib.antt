@@ -1,2 +1,0 @@
--- A fact on lists that the program's proofs cite.
-pub mod Prefix

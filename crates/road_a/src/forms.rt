@@ -1,0 +1,79 @@
+// The words of this program, one form a line: what follows a name, then the names of the cases in their order.
+use printing::page::Page;
+use printing::say;
+
+const FORMS: [u8; 1024] = *b"\
+: entered %, left %
+: settled after %
+: unsettled after %
+, output
+road A
+road J 2, C 1, D p q all 1
+road A with p 6
+road A with C 1000
+road A with C 201
+road A with D 0 and J 1
+road D p q 4096, J 1000000, C 500000
+road D 4097
+road J 1000001
+road of five largest numbers
+one cell 101, ends 0
+cells 300 150 700 between 100 and 0
+D 0
+p 6
+C 1000
+C 201
+no cells
+T 4097 with ends of 1
+two upstream ends for T 1
+no downstream end for T 1
+output of 2 for 3 cells
+output of 2 and a cell above J
+cells 2 and 3 above J
+upstream above J at step 1
+downstream above J at step 0
+n 3, T 0
+n 1, T 4096
+n 256, T 4096, a jam that dissolves
+n 256, T 4096, a jam that stays
+D and J at their ceilings
+n 257
+T 4097
+settling one cell 2, ends 0, T 9
+settling one cell 1000, ends 0, T 3
+settling one cell 1000, ends 0, T 4096
+settling one cell 2, T 0
+settling C 201
+settling T 4097
+settling output of 2 for 1 cell
+settling cell 2 above J
+settling upstream above J, T 0
+settling downstream above J
+settling n 256, a jam that dissolves
+settling n 257
+";
+
+// What follows a name.
+pub const TOTALS: usize = 0;
+
+pub const SETTLED: usize = 1;
+
+pub const UNSETTLED: usize = 2;
+
+pub const OUTPUT: usize = 3;
+
+// The first name of each table.
+pub const ROADS: usize = 4;
+
+pub const FORECASTS: usize = ROADS + 10;
+
+pub const EDGES: usize = FORECASTS + 15;
+
+pub const SETTLINGS: usize = EDGES + 7;
+
+pub const LONG_SETTLINGS: usize = SETTLINGS + 10;
+
+// A form, with the numbers that it asks for.
+pub fn say(page: &mut Page, line: usize, a: u64, b: u64) {
+    say::form(page, &FORMS, line, a, b, 0, 0);
+}

@@ -1,0 +1,88 @@
+-- Row prediction: a legal word's rows applied to any accepted state (document 01, "Seven modes").
+use mathlib.Core.Path.{_≡_}
+use mathlib.Core.Bool.{true}
+use mathlib.Core.List.{List, map}
+use Prim.Native.Nat.{ℕ, _+_, _*_, _≤_, _<_}
+use lib.Dec.{eqb}
+use lib.IntN.{ℤ, pos, _-ℤ_, natAbs}
+use lib.ListN.{length, getD}
+use Rattle.choice.specs.Choice.{pick}
+use Rattle.road.specs.Ceilings.{cellsCeiling}
+use Rattle.road.specs.Table.{judge, refused, Judged}
+use Rattle.road.specs.Judgement.{Accepted}
+use Rattle.road.specs.declared.Road.{Road}
+use Rattle.road.specs.declared.refusal.Refusal.{Refusal}
+use Rattle.scheme.specs.Sums.{Below}
+use Rattle.scheme.specs.Word.{wordOf}
+use Rattle.scheme.specs.Exact.{exactStep}
+use Rattle.scheme.specs.Rounded.{roundStep}
+use Rattle.scheme.specs.ByFaces.{ExactStepByFaces}
+use Rattle.words.specs.Words.{legal}
+use Rattle.rows.specs.Rows.{rowNumerators}
+use Rattle.rows.specs.Judging.{predictShapeRows, predictRows, predictRefusal}
+use Rattle.words.specs.Places.{PairWordPlaced}
+use Rattle.modes.specs.ReadOff.{ReadOff}
+use Rattle.rows.specs.declared.prediction.PredictAnswer.{PredictAnswer}
+use Rattle.rows.specs.declared.prediction.PredictAnswer.the-variants.{Done, Refused}
+
+unfoldable pub predictAnswer : Road → List ℕ → ℕ → ℕ → List ℕ → ℕ → PredictAnswer
+predictAnswer r cells up down word out =
+    pick (eqb (predictRefusal r cells up down word out .number) 0) Done (Refused (predictRefusal r cells up down word out))
+
+-- the numerators written, or the former contents
+unfoldable pub predicted : Road → List ℕ → ℕ → ℕ → List ℕ → List ℤ → List ℤ
+predicted r cells up down word out =
+    pick (eqb (predictRefusal r cells up down word (length out) .number) 0) (rowNumerators r up down word cells) out
+
+-- the paper's numbers of an answer: number (0 when accepted) and place
+abbrev pub predictNumber : PredictAnswer → ℕ
+predictNumber Done = 0
+predictNumber (Refused f) = f .number
+
+abbrev pub predictPlace : PredictAnswer → ℕ
+predictPlace Done = 0
+predictPlace (Refused f) = f .place
+
+-- what the rows 1 to 5 and 8 come to
+unfoldable pub predictShapeRefusal : Road → ℕ → ℕ → Refusal
+predictShapeRefusal r n out = judge (predictShapeRows r n out)
+
+-- what an input that no row refuses is
+pub record PredictChecked (r : Road) (cells : List ℕ) (up down : ℕ) (word : List ℕ) (out : ℕ) : Type 0 where
+  pub accepted : Accepted r
+  pub cells-low : 1 ≤ length cells
+  pub cells-high : length cells ≤ cellsCeiling
+  pub output-long : out ≡ length cells
+  pub cells-below : Below (r .jam) cells
+  pub up-below : up ≤ r .jam
+  pub down-below : down ≤ r .jam
+  pub word-long : length word ≡ length cells + 1
+  pub word-legal : legal word ≡ true
+
+-- demand 1 of a refusal, of the row prediction's rows
+abbrev pub PredictJudged : Road → List ℕ → ℕ → ℕ → List ℕ → ℕ → Refusal → Type 0
+PredictJudged r cells up down word out f =
+    Judged (predictRows r cells up down word out) (PredictChecked r cells up down word out) (PairWordPlaced r cells up down word) f
+
+-- rows of the state's own word: the exact, unrounded step, with no subtraction cut off, and D times the rounded new density differs from it by less than D
+pub record OwnRows (r : Road) (cells : List ℕ) (up down : ℕ) (rows : List ℤ) : Type 0 where
+  pub exact : rows ≡ map pos (exactStep r 1 up down cells)
+  pub exact-step : ExactStepByFaces r 1 up down cells (exactStep r 1 up down cells)
+  pub near : (k : ℕ) → natAbs (pos (r .divisor * getD (roundStep r up down cells) k 0) -ℤ getD rows k (pos 0)) < r .divisor
+
+-- an accepted row prediction of n cells: n numerators, by the rows of the word, which is the word of some accepted state
+pub record PredictState (r : Road) (cells : List ℕ) (up down : ℕ) (word : List ℕ) (rows : List ℤ) : Type 0 where
+  pub written : rows ≡ rowNumerators r up down word cells
+  pub long : length rows ≡ length cells
+  pub own : word ≡ wordOf r up down cells → OwnRows r cells up down rows
+  pub occurs : ReadOff r word
+
+-- what the call promises
+pub record Predicts (r : Road) (cells : List ℕ) (up down : ℕ) (word : List ℕ) (out next : List ℤ) (a : PredictAnswer) : Type 0 where
+  pub answer : a ≡ predictAnswer r cells up down word (length out)
+  pub number : predictNumber a ≡ predictRefusal r cells up down word (length out) .number
+  pub place : predictPlace a ≡ predictRefusal r cells up down word (length out) .place
+  pub output : next ≡ predicted r cells up down word out
+  pub judged : PredictJudged r cells up down word (length out) (refused (predictNumber a) (predictPlace a))
+  -- demand 2, of an accepted call: of the numerators handed back
+  pub state : a ≡ Done → PredictState r cells up down word next

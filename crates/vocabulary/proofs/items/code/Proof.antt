@@ -1,0 +1,19 @@
+-- `vocabulary::code` meets its contract, branch by branch.
+use borrow.Author.Tests.{eq-eqb, ne-eqb}
+use Rattle.vocabulary.proofs.items.code.Statement.{statement}
+use Rattle.vocabulary.proofs.items.code.Tie as tie
+
+returns : tie.Need-returns
+returns c = simp (eq-eqb _ 87 (c .if1 .taken))
+
+returns-2 : tie.Need-returns-2
+returns-2 c = simp (ne-eqb _ 87 (c .before .if1 .left), eq-eqb _ 76 (c .if2 .taken))
+
+returns-3 : tie.Need-returns-3
+returns-3 c = simp (ne-eqb _ 87 (c .before .before .if1 .left), ne-eqb _ 76 (c .before .if2 .left), eq-eqb _ 68 (c .if3 .taken))
+
+returns-4 : tie.Need-returns-4
+returns-4 c = simp (ne-eqb _ 87 (c .before .before .if1 .left), ne-eqb _ 76 (c .before .if2 .left), ne-eqb _ 68 (c .if3 .left))
+
+pub code-spec : {M : Type 1} → statement M
+code-spec = tie.close (tie.spec returns returns-2 returns-3 returns-4)

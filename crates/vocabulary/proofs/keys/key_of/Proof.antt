@@ -1,0 +1,21 @@
+-- `vocabulary::key_of` meets its contract: the constant's rows are the definition's, and past the last there is no key.
+use Prim.Native.Nat.{_<_}
+use Rattle.vocabulary.specs.Ascii.{ascii}
+use Rattle.vocabulary.specs.Keys.{table, keyRow}
+use Rattle.vocabulary.proofs.KeyTable.{told-at, no-key}
+use borrow.Author.Needs.{needs}
+use Rattle.vocabulary.proofs.keys.key_of.Statement.{statement}
+use Rattle.vocabulary.proofs.keys.key_of.Tie as tie
+
+returns : tie.Need-returns
+unfolding ascii
+returns c = no-key (c .before .args .code) (c .if1 .taken)
+
+returns-2 : tie.Need-returns-2
+unfolding table keyRow ascii
+returns-2 c =
+    let h : c .before .before .before .args .code < 23 = search needs in
+    told-at table _ _ h
+
+pub key-of-spec : {M : Type 1} → statement M
+key-of-spec = tie.close (tie.spec returns (λ c. search needs) (λ c. search needs) returns-2)
