@@ -1,4 +1,4 @@
--- The seven modes (document 01, "Seven modes"; source 004, Table III.1).
+-- The seven modes (document 01, "Seven modes"; source 004, Tables III.1 and III.2).
 use mathlib.Core.List.{List, [], _∷_}
 use Prim.Native.Nat.{ℕ}
 use lib.Dec.{eqb}
