@@ -80,7 +80,7 @@
  * With density a upstream of a face and b downstream of it,
  *
  *   numerator = the smaller of free x min(a, critical) and wave x (jam - max(b, critical))
- *   units     = numerator / divisor, rounded down
+ *   units     = numerator / divisor, to the nearest whole number, an exact half up
  *
  * and the face has one letter, given as a one-byte code:
  *
@@ -135,8 +135,8 @@
 extern "C" {
 #endif
 
-/* The version of this header: ten thousand a major, a hundred a minor version. 0.3.0 is 300. */
-#define WELGADOU_VERSION 300
+/* The version of this header: ten thousand a major, a hundred a minor version. 0.4.0 is 400. */
+#define WELGADOU_VERSION 400
 
 /* Returns: the version of the library that is linked, WELGADOU_VERSION where it is the one of this header. */
 uint32_t welgadou_version(void);

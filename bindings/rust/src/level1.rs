@@ -8,7 +8,7 @@ use crate::{ffi, Refusal, Road};
 /// let road = welgadou::Road { divisor: 5, free: 4, wave: 1, jam: 1000, critical: 200 };
 /// let (start, mut out) = ([101], [0]);
 /// let totals = welgadou::forecast(&road, &start, &[0], &[0], 1, &mut out)?;
-/// assert_eq!(totals, welgadou::Totals { entered: 0, left: 80 });
+/// assert_eq!(totals, welgadou::Totals { entered: 0, left: 81 });
 /// assert_eq!(u64::from(start[0]) + totals.entered, u64::from(out[0]) + totals.left);
 /// # Ok::<(), welgadou::Refusal>(())
 /// ```
@@ -55,7 +55,7 @@ pub fn forecast(
 /// let mut out = [0];
 /// let report = welgadou::settle(&road, &[2], 0, 0, 9, &mut out)?;
 /// assert_eq!(report, welgadou::Settlement { settled: true, steps: 1 });
-/// assert_eq!(out, [1]);
+/// assert_eq!(out, [0]);
 /// # Ok::<(), welgadou::Refusal>(())
 /// ```
 #[derive(Clone, Copy, Debug, PartialEq, Eq, Hash)]

@@ -1,8 +1,10 @@
--- The values of document 02, request by request: one record, one field a value. E1 prints none: its values are worked from its words.
+-- The values of document 02, request by request: one record, one field a value. E1 prints none: its values are worked from its words. Those of E2 on road A are among the starred cases.
 use mathlib.Core.Path.{_≡_}
 use Prim.Native.Nat.{ℕ}
 use lib.Ieee.{Float, binary64, ofBits}
 use Rattle.road.specs.Table.{refused}
+use Rattle.road.specs.declared.Road.{Road}
+use Rattle.flux.specs.Face.{numerator, units}
 use Rattle.site.specs.Station.{whole, stationAnswer}
 use Rattle.site.specs.declared.stations.StationReading.{StationReading}
 use Rattle.site.specs.declared.stations.StationReading.the-variants.{Density, FlowAndSpeed, Speed}
@@ -26,6 +28,10 @@ gives x density = stationAnswer roadA x ≡ Done (record { density = whole densi
 abbrev pub givesRefusal : StationReading → ℕ → Type 0
 givesRefusal x number = stationAnswer roadA x ≡ Refused (refused number 0)
 
+-- E2: the road of its exact half: D 2, p 1, q 1, J 2, C 1
+abbrev pub halfRoad : Road
+halfRoad = record { divisor = 2; free = 1; wave = 1; jam = 2; critical = 1 }
+
 pub record Requested : Type 0 where
   -- E1, station readings
   pub density-1000 : gives (Density (whole 1000)) 1000
@@ -34,3 +40,5 @@ pub record Requested : Type 0 where
   pub speed-0·2 : gives (Speed fifth) 500
   pub speed-0·6 : gives (Speed three-fifths) 250
   pub speed-0·8 : givesRefusal (Speed four-fifths) 17
+  -- E2, an exact half moves up
+  pub half-passes : units halfRoad (numerator halfRoad 1 0) ≡ 1

@@ -1,4 +1,4 @@
--- The starred cases of document 01, "Road A at its edges": one record, one field a starred value.
+-- The starred cases of document 01, "Road A at its edges", rounded as document 02, E2, says: one record, one field a starred value.
 use mathlib.Core.Path.{_≡_}
 use mathlib.Core.Bool.{true}
 use mathlib.Core.List.{List, [], _∷_}
@@ -55,21 +55,21 @@ pub record Starred : Type 0 where
   pub letter-200-200 : letter roadA 200 200 ≡ letterD
   pub units-200-200 : moves 200 200 ≡ 160
   pub letter-200-201 : letter roadA 200 201 ≡ letterW
-  pub units-200-201 : moves 200 201 ≡ 159
+  pub units-200-201 : moves 200 201 ≡ 160
   pub letter-201-200 : letter roadA 201 200 ≡ letterL
   pub units-201-200 : moves 201 200 ≡ 160
   pub letter-100-600 : letter roadA 100 600 ≡ letterD
   pub units-100-600 : moves 100 600 ≡ 80
   pub letter-100-601 : letter roadA 100 601 ≡ letterW
-  pub units-100-601 : moves 100 601 ≡ 79
+  pub units-100-601 : moves 100 601 ≡ 80
   pub letter-0-1000 : letter roadA 0 1000 ≡ letterD
   pub units-0-1000 : moves 0 1000 ≡ 0
   pub letter-1-1000 : letter roadA 1 1000 ≡ letterW
   pub units-1-1000 : moves 1 1000 ≡ 0
   -- one cell 101, ends 0
-  pub one-cell : oneStepCells (101 ∷ []) 0 0 ≡ 21 ∷ []
+  pub one-cell : oneStepCells (101 ∷ []) 0 0 ≡ 20 ∷ []
   pub one-entered : oneStep (101 ∷ []) 0 0 .entered ≡ 0
-  pub one-left : oneStep (101 ∷ []) 0 0 .left ≡ 80
+  pub one-left : oneStep (101 ∷ []) 0 0 .left ≡ 81
   pub one-exact : exactStep roadA 1 0 0 (101 ∷ []) ≡ 101 ∷ []
   -- upstream 100, cells 300, 150, 700, downstream 0
   pub three-letters : threeLetters ≡ letterD ∷ letterL ∷ letterW ∷ letterL ∷ []
@@ -81,7 +81,7 @@ pub record Starred : Type 0 where
   -- one cell 2, ends 0, T 9
   pub settled : settling .settled ≡ true
   pub settled-steps : settling .steps ≡ 1
-  pub settled-cell : Settle.settleOutput roadA (2 ∷ []) 0 0 9 (2 ∷ []) ≡ 1 ∷ []
+  pub settled-cell : Settle.settleOutput roadA (2 ∷ []) 0 0 9 (2 ∷ []) ≡ 0 ∷ []
   -- one cell 0, ends 0, word D W
   pub foreign-numerator : predicted roadA (0 ∷ []) 0 0 (letterD ∷ letterW ∷ []) (pos 0 ∷ []) ≡ negsuc 999 ∷ []
   -- word counts

@@ -1,22 +1,23 @@
 -- Division by a multiplier and a shift: the factors of a road give the units of every density.
 use mathlib.Core.Path.{_≡_, _∙_, sym, ap}
+use mathlib.Core.Bool.{Bool}
 use mathlib.Core.Logic.{_⊎_, inl, inr}
 use Prim.Native.Nat.{ℕ, _+_, _-_, _*_, _/_, _^_, _≤_, _<_, min, max}
-use native.Mathlib.Nat.{mul-comm, le-trans, lt-of-le-of-lt, lt-of-not-le, mul-le-mul, mul-le-mul-left, mul-le-mul-right, le-of-mul-le-mul-right, lt-of-mul-lt-mul-right, div-mul-le-self, lt-div-mul-add, div-eq-of-lt-le, div-lt-iff-lt-mul, le-of-lt, le-of-eq, le-of-suc-le-suc, eq-or-lt-of-le}
-use native.Mathlib.Decide.{decLt}
+use native.Mathlib.Nat.{mul-comm, le-trans, mul-le-mul, mul-le-mul-left, mul-le-mul-right, le-of-mul-le-mul-right, lt-of-mul-lt-mul-right, div-mul-le-self, lt-div-mul-add, div-eq-of-lt-le, div-lt-iff-lt-mul, le-of-lt, le-of-eq, eq-or-lt-of-le}
 use native.Mathlib.Omega.{arith}
 use lib.Dec.{lit<, lit≤}
 use borrow.Author.Tests.{lt-ltb, le-ltb}
 use mir.Syntax.{w32}
 use mir.Val.{Fits}
+use Rattle.choice.specs.Choice.{pick}
 use Rattle.road.specs.Ceilings.{divisorCeiling, jamCeiling}
 use Rattle.road.specs.Judgement.{Accepted}
 use Rattle.road.specs.declared.Road.{Road}
 use Rattle.flux.specs.Face.{sending, receiving, numerator, units}
-use Rattle.flux.specs.Pace.{factorOf, part, paceOf}
+use Rattle.flux.specs.Pace.{multiplier, slowFactor, wholeFactor, factorOf, part, paceOf}
 use Rattle.flux.specs.declared.pace.Factor.{Factor}
 use Rattle.flux.specs.declared.pace.Pace.{Pace}
-use Rattle.flux.proofs.Rounding.{units-exact, units-at-most, units-min}
+use Rattle.flux.proofs.Rounding.{units-half, units-exact, units-at-most, units-min}
 use Rattle.flux.proofs.Scaling.{min-times}
 
 -- a quotient over b of x, rounded up to whole parts of 1/d
@@ -54,69 +55,56 @@ by-multiplier d b a p h m e pos wide M H = sym (div-eq-of-lt-le b low high)
         omega arith)
 
 -- dividing with the divisor less one added rounds up
-rounded-up : (x b d : ℕ) → 0 < d → Up x b d ((x * b + (d - 1)) / d)
-rounded-up x b d pos =
-    let low = div-mul-le-self (x * b + (d - 1)) d in
-    let high = lt-div-mul-add {a = x * b + (d - 1)} pos in
+rounded-up : (x d : ℕ) → 0 < d → Up x (2 ^ 32) d (multiplier x d)
+unfolding multiplier
+rounded-up x d pos =
+    let low = div-mul-le-self (x * 2 ^ 32 + (d - 1)) d in
+    let high = lt-div-mul-add {a = x * 2 ^ 32 + (d - 1)} pos in
     record { enough = omega arith; least = omega arith }
 
--- the multiplier of a speed below the divisor fits 32 bits
-pub multiplier-fits : (speed d : ℕ) → 0 < d → d ≤ divisorCeiling → speed < d → Fits w32 ((speed * 2 ^ 32 + (d - 1)) / d)
-multiplier-fits speed d pos high h = record { fits = div-lt-iff-lt-mul pos .1 (omega arith) }
-
--- nothing rounds up to nothing
-nothing-up : (b d : ℕ) → 0 < d → Up 0 b d 0
-nothing-up b d pos = record { enough = omega arith; least = omega arith }
-
--- the whole density, by the largest multiplier and one more
-whole-part : (a : ℕ) → a ≤ jamCeiling → (a + 1) * (2 ^ 32 - 1) / 2 ^ 32 ≡ a
-whole-part a h = div-eq-of-lt-le (2 ^ 32) (omega arith) (omega arith)
+-- the multiplier of a fraction below one fits 32 bits
+pub multiplier-fits : (x d : ℕ) → d ≤ divisorCeiling → x < d → Fits w32 ((x * 2 ^ 32 + (d - 1)) / d)
+multiplier-fits x d high h = let pos : 0 < d = omega arith in record { fits = div-lt-iff-lt-mul pos .1 (omega arith) }
 
 -- the two cases of a factor
-pub factor-slow : (speed d : ℕ) → speed < d → factorOf speed d ≡ record { times = (speed * 2 ^ 32 + (d - 1)) / d; more = 0 }
+pub factor-slow : (speed d : ℕ) → speed < d → factorOf speed d ≡ slowFactor speed d
 unfolding factorOf
-factor-slow speed d h = rw (lt-ltb speed d h)
+factor-slow speed d h = ap (λ (b : Bool). pick b (slowFactor speed d) wholeFactor) (lt-ltb speed d h)
 
-pub factor-whole : (speed d : ℕ) → d ≤ speed → factorOf speed d ≡ record { times = 2 ^ 32 - 1; more = 1 }
+pub factor-whole : (speed d : ℕ) → d ≤ speed → factorOf speed d ≡ wholeFactor
 unfolding factorOf
-factor-whole speed d h = rw (le-ltb speed d h)
+factor-whole speed d h = ap (λ (b : Bool). pick b (slowFactor speed d) wholeFactor) (le-ltb speed d h)
 
-pub factor-more : (speed d : ℕ) → factorOf speed d .more ≤ 1
-factor-more speed d = by-speed (decLt speed d)
-  where
-    by-speed : Dec (speed < d) → factorOf speed d .more ≤ 1
-    by-speed (yes h) = rw (factor-slow speed d h) (lit≤ tt)
-    by-speed (no n) = rw (factor-whole speed d (le-of-suc-le-suc (lt-of-not-le n))) (lit≤ tt)
+-- the whole density
+whole-part : (a : ℕ) → a ≤ jamCeiling → part wholeFactor a ≡ a
+unfolding part wholeFactor
+whole-part a h = div-eq-of-lt-le (2 ^ 32) (omega arith) (omega arith)
 
 module _ (r : Road) (ok : Accepted r) where
-  slow-part : (speed a : ℕ) → speed < r .divisor → a ≤ jamCeiling → part (factorOf speed (r .divisor)) a ≡ units r (speed * a)
-  unfolding part units
+  slow-part : (speed a : ℕ) → speed < r .divisor → a ≤ jamCeiling → part (slowFactor speed (r .divisor)) a ≡ units r (speed * a)
+  unfolding part slowFactor
   slow-part speed a s h =
       let wide : (a + 1) * r .divisor ≤ 2 ^ 32 =
       let n : a + 1 ≤ jamCeiling + 1 = omega arith in
       le-trans (mul-le-mul n (ok .divisor-high)) (lit≤ tt)
       in
-      let m = (speed * 2 ^ 32 + (r .divisor - 1)) / r .divisor in
-      let read = by-multiplier (r .divisor) (2 ^ 32) a speed 0 m 0 (ok .divisor-low) wide
-      (rounded-up speed (2 ^ 32) (r .divisor) (ok .divisor-low))
-      (nothing-up (2 ^ 32) (r .divisor) (ok .divisor-low))
+      let read = by-multiplier (r .divisor) (2 ^ 32) a speed (r .divisor / 2) (multiplier speed (r .divisor)) (multiplier (r .divisor / 2) (r .divisor)) (ok .divisor-low) wide
+      (rounded-up speed (r .divisor) (ok .divisor-low))
+      (rounded-up (r .divisor / 2) (r .divisor) (ok .divisor-low))
       in
-      rw (factor-slow speed (r .divisor) s)
-      (ap (λ (x : ℕ). x / 2 ^ 32) (omega arith) ∙ sym read ∙ ap (λ (x : ℕ). x / r .divisor) (omega arith))
+      sym read ∙ ap (λ (x : ℕ). x / r .divisor) (omega arith) ∙ sym (units-half r (ok .divisor-low) (speed * a))
 
-  full-part : (speed a : ℕ) → speed ≡ r .divisor → a ≤ jamCeiling → part (factorOf speed (r .divisor)) a ≡ units r (speed * a)
-  unfolding part
+  full-part : (speed a : ℕ) → speed ≡ r .divisor → a ≤ jamCeiling → part wholeFactor a ≡ units r (speed * a)
   full-part speed a s h =
-      rw (factor-whole speed (r .divisor) (le-of-eq (sym s)))
-      (whole-part a h ∙ sym (units-exact r (ok .divisor-low) a) ∙ ap (units r) (mul-comm a (r .divisor) ∙ ap (λ (x : ℕ). x * a) (sym s)))
+      whole-part a h ∙ sym (units-exact r (ok .divisor-low) a) ∙ ap (units r) (mul-comm a (r .divisor) ∙ ap (λ (x : ℕ). x * a) (sym s))
 
   -- the factor of a speed gives the units of speed × density
   pub factor-part : (speed a : ℕ) → speed ≤ r .divisor → a ≤ jamCeiling → part (factorOf speed (r .divisor)) a ≡ units r (speed * a)
   factor-part speed a s h = by-speed (eq-or-lt-of-le s)
     where
       by-speed : (speed ≡ r .divisor) ⊎ (speed < r .divisor) → part (factorOf speed (r .divisor)) a ≡ units r (speed * a)
-      by-speed (inl e) = full-part speed a e h
-      by-speed (inr l) = slow-part speed a l h
+      by-speed (inl e) = rw (factor-whole speed (r .divisor) (le-of-eq (sym e))) (full-part speed a e h)
+      by-speed (inr l) = rw (factor-slow speed (r .divisor) l) (slow-part speed a l h)
 
   -- a part is no more than its density
   pub part-small : (speed a : ℕ) → speed ≤ r .divisor → units r (speed * a) ≤ a
@@ -140,10 +128,15 @@ module _ (r : Road) (ok : Accepted r) where
       ∙ units-min r pos (min (r .free * a) (r .wave * (r .jam - b))) (r .free * r .critical)
       ∙ ap (λ (x : ℕ). min x (units r (r .free * r .critical))) (units-min r pos (r .free * a) (r .wave * (r .jam - b)))
 
--- the upper half of a product by a 32-bit multiplier fits 32 bits
-pub upper-half-fits : (a m : ℕ) → a ≤ jamCeiling + 1 → m < 2 ^ 32 → Fits w32 (a * m / 2 ^ 32)
-upper-half-fits a m h k =
-    record { fits = div-lt-iff-lt-mul (lit< tt) .1 (lt-of-le-of-lt (mul-le-mul h (le-of-lt k)) (lit< {m = (jamCeiling + 1) * 2 ^ 32} tt)) }
+-- a product by a 32-bit multiplier with a 32-bit offset
+pub product-small : (a m e : ℕ) → a ≤ jamCeiling → m < 2 ^ 32 → e < 2 ^ 32 → a * m + e < (jamCeiling + 1) * 2 ^ 32
+product-small a m e h k l = let product = mul-le-mul h (le-of-lt k) in omega arith
+
+-- its upper half fits 32 bits
+pub upper-half-fits : (a m e : ℕ) → a ≤ jamCeiling → m < 2 ^ 32 → e < 2 ^ 32 → Fits w32 ((a * m + e) / 2 ^ 32)
+upper-half-fits a m e h k l =
+    let small = product-small a m e h k l in
+    record { fits = div-lt-iff-lt-mul (lit< tt) .1 (omega arith) }
 
 -- what the fields of a road's pace give
 module _ (p : Pace) (ok : Accepted (p .road)) (is : p ≡ paceOf (p .road)) where
@@ -158,12 +151,6 @@ module _ (p : Pace) (ok : Accepted (p .road)) (is : p ≡ paceOf (p .road)) wher
   pub capacity-is : p .capacity ≡ units (p .road) (p .road .free * p .road .critical)
   unfolding paceOf
   capacity-is = ap (λ (q : Pace). q .capacity) is
-
-  pub send-more : p .send .more ≤ 1
-  send-more = rw send-is (factor-more (p .road .free) (p .road .divisor))
-
-  pub receive-more : p .receive .more ≤ 1
-  receive-more = rw receive-is (factor-more (p .road .wave) (p .road .divisor))
 
   pub send-part : (a : ℕ) → a ≤ jamCeiling → part (p .send) a ≡ units (p .road) (p .road .free * a)
   send-part a h = ap (λ (f : Factor). part f a) send-is ∙ factor-part (p .road) ok (p .road .free) a (ok .free-high) h

@@ -1,33 +1,52 @@
--- The four laws of `units`, and what follows from them. Only these laws, the code of `units` and the multipliers open the division.
+-- The units are the nearest whole number; the four laws of `units`, and what follows from them. Of all laws only `units-nearest` opens the division.
 use mathlib.Core.Path.{_≡_, _∙_, ap}
-use Prim.Native.Nat.{ℕ, _+_, _*_, _≤_, _<_, min}
-use native.Mathlib.Nat.{le-trans, zero-div, zero-add, div-mul-le-self, le-div-iff-mul-le, lt-div-mul-add, add-mul-div-right, min-eq-left, min-eq-right, le-of-lt, lt-of-not-le}
+use Prim.Native.Nat.{ℕ, _+_, _*_, _/_, _≤_, _<_, min}
+use native.Mathlib.Nat.{le-refl, le-antisymm, lt-of-le-of-lt, lt-of-mul-lt-mul-left, zero-add, div-mul-le-self, lt-div-mul-add, min-eq-left, min-eq-right, le-of-lt, lt-of-not-le}
 use native.Mathlib.Decide.{decLe}
 use native.Mathlib.Omega.{arith}
 use Rattle.road.specs.declared.Road.{Road}
-use Rattle.flux.specs.Face.{units}
+use Rattle.flux.specs.Face.{units, NearestUnits}
+
+-- a larger number has no smaller nearest one
+nearest-monotone : {d f g u v : ℕ} → f ≤ g → NearestUnits d f u → NearestUnits d g v → u ≤ v
+nearest-monotone {d} {f} {g} {u} {v} h one other =
+    let twice : 2 * f + d < 2 * d * (v + 1) = let high = other .high in omega arith in
+    let below = lt-of-mul-lt-mul-left (2 * d) (lt-of-le-of-lt (one .low) twice) in
+    omega arith
+
+-- there is one nearest whole number, halves included
+pub nearest-once : {d f u v : ℕ} → NearestUnits d f u → NearestUnits d f v → u ≡ v
+nearest-once {d} {f} one other = le-antisymm (nearest-monotone (le-refl f) one other) (nearest-monotone (le-refl f) other one)
 
 module _ (r : Road) (positive : 0 < r .divisor) where
+  -- the units are the nearest whole number to the numerator over the divisor
+  pub units-nearest : (f : ℕ) → NearestUnits (r .divisor) f (units r f)
+  unfolding units
+  units-nearest f =
+      let twice : 0 < 2 * r .divisor = omega arith in
+      let low = div-mul-le-self (2 * f + r .divisor) (2 * r .divisor) in
+      let high = lt-div-mul-add {a = 2 * f + r .divisor} twice in
+      record { low = omega arith; high = omega arith }
+
   -- a multiple of the divisor passes through whole
   pub units-shift : (f k : ℕ) → units r (f + k * r .divisor) ≡ units r f + k
-  unfolding units
-  units-shift f k = add-mul-div-right f k positive
+  units-shift f k =
+      let low = units-nearest f .low in
+      let high = units-nearest f .high in
+      nearest-once (units-nearest (f + k * r .divisor)) (record { low = omega arith; high = omega arith })
 
   -- a larger numerator moves no fewer units
   pub units-monotone : {f g : ℕ} → f ≤ g → units r f ≤ units r g
-  unfolding units
-  units-monotone {f} {g} h = le-div-iff-mul-le positive .1 (le-trans (div-mul-le-self f (r .divisor)) h)
+  units-monotone {f} {g} h = nearest-monotone h (units-nearest f) (units-nearest g)
 
   pub units-zero : units r 0 ≡ 0
-  unfolding units
-  units-zero = zero-div (r .divisor)
+  units-zero = nearest-once (units-nearest 0) (record { low = omega arith; high = omega arith })
 
   -- two rounding errors differ by less than the divisor
   pub units-spread : (f g : ℕ) → f + units r g * r .divisor < g + units r f * r .divisor + r .divisor
-  unfolding units
   units-spread f g =
-      let low = lt-div-mul-add {a = f} positive in
-      let high = div-mul-le-self g (r .divisor) in
+      let low = units-nearest g .low in
+      let high = units-nearest f .high in
       omega arith
 
   -- from these four alone:
@@ -47,3 +66,10 @@ module _ (r : Road) (positive : 0 < r .divisor) where
   -- a cap of k units on the flow is a cap of k on the units
   pub units-cap : (f k : ℕ) → units r (min f (k * r .divisor)) ≡ min (units r f) k
   units-cap f k = units-min f (k * r .divisor) ∙ ap (min (units r f)) (units-exact k)
+
+  -- half the divisor added first, then rounded down: an odd divisor loses nothing, since 2 × f is even
+  pub units-half : (f : ℕ) → units r f ≡ (f + r .divisor / 2) / r .divisor
+  units-half f =
+      let low = div-mul-le-self (f + r .divisor / 2) (r .divisor) in
+      let high = lt-div-mul-add {a = f + r .divisor / 2} positive in
+      nearest-once (units-nearest f) (record { low = omega arith; high = omega arith })

@@ -1,6 +1,6 @@
 -- One face of the triangular Godunov scheme: flow numerator, units moved, letter (document 01, "Flow and letter of a face").
 use mathlib.Core.Bool.{Bool}
-use Prim.Native.Nat.{ℕ, _-_, _*_, _/_, min, max}
+use Prim.Native.Nat.{ℕ, _+_, _-_, _*_, _/_, _≤_, _<_, min, max}
 use lib.Dec.{ltb, leb}
 use Rattle.choice.specs.Choice.{pick, both}
 use Rattle.road.specs.declared.Road.{Road}
@@ -17,9 +17,14 @@ receiving r b = r .wave * (r .jam - max b (r .critical))
 unfoldable pub numerator : Road → ℕ → ℕ → ℕ
 numerator r a b = min (sending r a) (receiving r b)
 
--- the units moved: a numerator divided by D, rounded down
+-- the units moved: the nearest whole number to a numerator divided by D, an exact half up (document 02, E2; document 01 rounded down)
 unfoldable pub units : Road → ℕ → ℕ
-units r f = f / r .divisor
+units r f = (2 * f + r .divisor) / (2 * r .divisor)
+
+-- u is the nearest whole number to f / d: f / d lies from u − ½, included, to u + ½, excluded. `units-nearest` shows it of the units, `nearest-once` of no other number
+pub record NearestUnits (d f u : ℕ) : Type 0 where
+  pub low : 2 * d * u ≤ 2 * f + d
+  pub high : 2 * f + d < 2 * d * (u + 1)
 
 -- the road with densities counted in parts of 1/Z unit: Z × J and Z × C in place of J and C
 unfoldable pub scaled : ℕ → Road → Road

@@ -52,12 +52,13 @@ pub fn numerator(r: Road, a: u32, b: u32) -> u32
     smaller(sending(r, a), receiving(r, b))
 }
 
-// Internal: the whole units of a numerator, by division. The pace of a road has them without one.
+// Internal: the units of a numerator, by division: to the nearest, an exact half up. The pace of a road has them without one.
 pub fn units(r: Road, f: u32) -> u32
     requires { ⌜ 0 < r .divisor ⌝ }
     ensures { λ u. ⌜ u ≡ units r f ⌝ }
 {
-    f / r.divisor
+    let d = r.divisor as u64;
+    ((2 * (f as u64) + d) / (2 * d)) as u32
 }
 
 // Internal: the letter of the face between densities a and b: W 0, L 1, D 2.

@@ -4,15 +4,15 @@ ghost use Prim.Native.Nat.{_≤_, _<_, _^_, min};
 ghost use Rattle.road.specs.Ceilings.{divisorCeiling, jamCeiling};
 ghost use Rattle.road.specs.Judgement.{Accepted};
 ghost use Rattle.flux.specs.Face.{numerator, units};
-ghost use Rattle.flux.specs.Pace.{factorOf, part, paceOf};
+ghost use Rattle.flux.specs.Pace.{multiplier, factorOf, part, paceOf};
 use super::face;
 use road::Road;
 
-// A speed as a fraction of 2^32, for densities that grow by `more` first. The multiplier is 32 bits wide, so that a
+// A speed as a fraction of 2^32, and what the rounding adds, in the same parts. The multiplier is 32 bits wide, so that a
 // vector multiplication takes two of them.
 pub struct Factor {
     pub times: u32,
-    pub more: u32,
+    pub offset: u32,
 }
 
 // What every face of a road needs, made once a call.
@@ -23,6 +23,16 @@ pub struct Pace {
     pub capacity: u32,
 }
 
+// Internal: x/divisor, below one, in parts of 1/2^32, rounded up.
+fn multiplier(x: u32, divisor: u32) -> u32
+    requires { ⌜ divisor ≤ divisorCeiling ⌝ }
+    requires { ⌜ x < divisor ⌝ }
+    ensures { λ m. ⌜ m ≡ multiplier x divisor ⌝ }
+{
+    let d = divisor as u64;
+    (((x as u64) * 4_294_967_296 + (d - 1)) / d) as u32
+}
+
 impl Factor {
     // Internal: the factor of speed/divisor.
     pub fn of(speed: u32, divisor: u32) -> Factor
@@ -31,16 +41,14 @@ impl Factor {
         ensures { λ f. ⌜ f ≡ factorOf speed divisor ⌝ }
     {
         if speed < divisor {
-            let d = divisor as u64;
-            let up = ((speed as u64) * 4_294_967_296 + (d - 1)) / d;
             Factor {
-                times: up as u32,
-                more: 0,
+                times: multiplier(speed, divisor),
+                offset: multiplier(divisor / 2, divisor),
             }
         } else {
             Factor {
                 times: 4_294_967_295,
-                more: 1,
+                offset: 2_147_483_648,
             }
         }
     }
@@ -48,10 +56,9 @@ impl Factor {
     // Internal: a density's part.
     pub fn part(self, a: u32) -> u32
         requires { ⌜ a ≤ jamCeiling ⌝ }
-        requires { ⌜ self .more ≤ 1 ⌝ }
         ensures { λ u. ⌜ u ≡ part self a ⌝ }
     {
-        ((((a + self.more) as u64) * (self.times as u64)) >> 32) as u32
+        (((a as u64) * (self.times as u64) + (self.offset as u64)) >> 32) as u32
     }
 }
 

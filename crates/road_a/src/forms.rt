@@ -2,11 +2,13 @@
 use printing::page::Page;
 use printing::say;
 
-const FORMS: [u8; 1024] = *b"\
+const FORMS: [u8; 1255] = *b"\
 : entered %, left %
+: moves %
 : settled after %
 : unsettled after %
 , output
+, face (%, %)
 road A
 road J 2, C 1, D p q all 1
 road A with p 6
@@ -17,8 +19,13 @@ road D p q 4096, J 1000000, C 500000
 road D 4097
 road J 1000001
 road of five largest numbers
+road D 2, p q 1, J 12, C 6
+road D 2, p q 1, J 2, C 1
+road D 4, p q 1, J 4, C 2
+road D 2177, p 13, q 2177, J 998640, C 992712
 one cell 101, ends 0
 cells 300 150 700 between 100 and 0
+cells 7 2 9 between 1 and 0
 D 0
 p 6
 C 1000
@@ -40,6 +47,7 @@ D and J at their ceilings
 n 257
 T 4097
 settling one cell 2, ends 0, T 9
+settling one cell 1 of the road with D 4, ends 0, T 9
 settling one cell 1000, ends 0, T 3
 settling one cell 1000, ends 0, T 4096
 settling one cell 2, T 0
@@ -56,22 +64,39 @@ settling n 257
 // What follows a name.
 pub const TOTALS: usize = 0;
 
-pub const SETTLED: usize = 1;
+pub const MOVES: usize = 1;
 
-pub const UNSETTLED: usize = 2;
+pub const SETTLED: usize = 2;
 
-pub const OUTPUT: usize = 3;
+pub const UNSETTLED: usize = 3;
+
+pub const OUTPUT: usize = 4;
+
+pub const FACE: usize = 5;
 
 // The first name of each table.
-pub const ROADS: usize = 4;
+pub const ROADS: usize = 6;
 
-pub const FORECASTS: usize = ROADS + 10;
+// The roads of the faces, among them.
+pub const ROAD_A: usize = ROADS;
 
-pub const EDGES: usize = FORECASTS + 15;
+pub const NARROWEST: usize = ROADS + 1;
+
+pub const WIDEST: usize = ROADS + 6;
+
+pub const HALVES: usize = ROADS + 10;
+
+pub const ONE_HALF: usize = ROADS + 11;
+
+pub const D_2177: usize = ROADS + 13;
+
+pub const FORECASTS: usize = ROADS + 14;
+
+pub const EDGES: usize = FORECASTS + 16;
 
 pub const SETTLINGS: usize = EDGES + 7;
 
-pub const LONG_SETTLINGS: usize = SETTLINGS + 10;
+pub const LONG_SETTLINGS: usize = SETTLINGS + 11;
 
 // A form, with the numbers that it asks for.
 pub fn say(page: &mut Page, line: usize, a: u64, b: u64) {

@@ -5,7 +5,7 @@ use printing::page::Page;
 use worked::print;
 use worked::roads;
 
-const COUNT: usize = 10;
+const COUNT: usize = 14;
 
 const CASES: [u8; COUNT] = [
     roads::A,
@@ -18,6 +18,10 @@ const CASES: [u8; COUNT] = [
     roads::D_4097,
     roads::J_1000001,
     roads::LARGEST,
+    roads::HALVES,
+    roads::ONE_HALF,
+    roads::QUARTERS,
+    roads::D_2177,
 ];
 
 // Roads that are accepted and roads that are refused.

@@ -1,4 +1,4 @@
-// Settling runs: the worked case, a road that does not settle, refusals with their places, and the edges.
+// Settling runs: the worked case, a unit that stays, a road that does not settle, refusals with their places, and the edges.
 use super::forms;
 use forecast::SettleAnswer;
 use printing::page;
@@ -48,10 +48,11 @@ fn show(
 // A road, cells, the upstream and the downstream end, the most steps, and the places of the output.
 struct Case(u8, u8, u32, u32, u32, usize);
 
-const COUNT: usize = 10;
+const COUNT: usize = 11;
 
 const CASES: [Case; COUNT] = [
     Case(A, ONE_2, 0, 0, 9, 1),
+    Case(roads::QUARTERS, few::ONE_1, 0, 0, 9, 1),
     Case(A, ONE_1000, 0, 0, 3, 1),
     Case(A, ONE_1000, 0, 0, 4096, 1),
     Case(A, ONE_2, 0, 0, 0, 1),

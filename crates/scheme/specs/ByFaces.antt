@@ -7,7 +7,7 @@ use Rattle.road.specs.declared.Road.{Road}
 use Rattle.flux.specs.Face.{numerator, units, scaled}
 use Rattle.scheme.specs.Advance.{padded}
 
--- the units over face k, which lies between cells k and k+1, the ghost cells standing at 0 and n+1
+-- the units over face k, rounded as document 02, E2, says; the face lies between cells k and k+1, the ghost cells standing at 0 and n+1
 unfoldable pub unitsOver : Road → ℕ → ℕ → List ℕ → ℕ → ℕ
 unitsOver r up down xs k = units r (numerator r (getD (padded up down xs) k 0) (getD (padded up down xs) (k + 1) 0))
 

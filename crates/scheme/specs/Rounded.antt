@@ -1,4 +1,4 @@
--- The forecast's scheme: each face moves the whole units of its flow (document 01, "Step, forecast and settling").
+-- The forecast's scheme: each face moves the units of its flow (document 01, "Step, forecast and settling"), rounded as document 02, E2, says.
 use mathlib.Core.List.{List}
 use Prim.Native.Nat.{ℕ}
 use Rattle.road.specs.declared.Road.{Road}

@@ -25,6 +25,8 @@ pub const ONE_1000: u8 = 17;
 
 pub const ONE_1001: u8 = 18;
 
+pub const ONE_1: u8 = 19;
+
 // Two densities, where a full cell has J of road A, and one above it a unit more.
 pub const TWO_100: u8 = 20;
 
@@ -36,7 +38,7 @@ pub const ABOVE_EMPTY: u8 = 23;
 
 pub const ABOVE_ABOVE: u8 = 24;
 
-// Three densities: of the document's worked case, and with some of them above J.
+// Three densities: of the document's worked case, with some of them above J, and nearly empty.
 pub const CELLS: u8 = 30;
 
 pub const ABOVE_AT_2: u8 = 31;
@@ -44,6 +46,8 @@ pub const ABOVE_AT_2: u8 = 31;
 pub const ABOVE_AT_3: u8 = 32;
 
 pub const ABOVE_AT_2_AND_3: u8 = 33;
+
+pub const FEW_UNITS: u8 = 34;
 
 // How many densities the list of a name has.
 pub fn count(name: u8) -> usize
@@ -73,6 +77,7 @@ pub fn list(name: u8) -> [u32; 3]
         ONE_300 => [300, 0, 0],
         ONE_1000 => [1000, 0, 0],
         ONE_1001 => [1001, 0, 0],
+        ONE_1 => [1, 0, 0],
         TWO_100 => [100, 100, 0],
         FULL_FULL => [1000, 1000, 0],
         FULL_ABOVE => [1000, 1001, 0],
@@ -82,6 +87,7 @@ pub fn list(name: u8) -> [u32; 3]
         ABOVE_AT_2 => [300, 1001, 700],
         ABOVE_AT_3 => [300, 150, 1001],
         ABOVE_AT_2_AND_3 => [1000, 1001, 4_294_967_295],
+        FEW_UNITS => [7, 2, 9],
         _ => [0, 0, 0],
     }
 }

@@ -32,8 +32,18 @@ pub const OTHER_WAVE: u8 = 10;
 // A road where a speed just below p/D is p once it is multiplied by D.
 pub const THIRDS: u8 = 11;
 
+// Roads where a free cell sends half of its units, or a quarter of them.
+pub const HALVES: u8 = 12;
+
+pub const ONE_HALF: u8 = 13;
+
+pub const QUARTERS: u8 = 14;
+
+// A road with an odd D whose half, over D in parts of 2^32, has to be worked out: 2^31 is too much.
+pub const D_2177: u8 = 15;
+
 // The road of five largest numbers, and of any other name.
-pub const LARGEST: u8 = 12;
+pub const LARGEST: u8 = 16;
 
 // A road from its five numbers: D, p, q, J, C.
 fn of(divisor: u32, free: u32, wave: u32, jam: u32, critical: u32) -> Road {
@@ -63,6 +73,10 @@ pub fn road(name: u8) -> Road {
         NARROWEST => of(1, 1, 1, 2, 1),
         OTHER_WAVE => of(5, 2, 3, 1000, 600),
         THIRDS => of(3, 1, 1, 2, 1),
+        HALVES => of(2, 1, 1, 12, 6),
+        ONE_HALF => of(2, 1, 1, 2, 1),
+        QUARTERS => of(4, 1, 1, 4, 2),
+        D_2177 => of(2177, 13, 2177, 998_640, 992_712),
         _ => of(MOST, MOST, MOST, MOST, MOST),
     }
 }

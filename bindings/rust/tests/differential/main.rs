@@ -170,6 +170,23 @@ fn long_forecasts() {
     cases("forecast, long", 400, &FORECAST, &FORECAST_WORDS, |g| one_forecast(g, 256 * 4096));
 }
 
+/// Single faces about half a unit: the face before the one cell of a forecast over one step.
+#[test]
+fn faces() {
+    cases("face", 200_000, &[], &[" whole", " below a half", " a half", " above a half"], |g| {
+        let road = random::good_road(g);
+        let [_, free, wave, jam, _] = road;
+        let (a, b) = (random::near_half(g, &road, free), jam - random::near_half(g, &road, wave));
+        let r = reference::Road::new(road);
+        let flow = reference::numerator(&r, i128::from(a), i128::from(b));
+        let (_, entered, _) = raw::forecast(road, &[b], &[a], &[jam], 1, 1).expect("accepted");
+        assert_eq!(i128::from(entered), reference::units(&r, flow), "road {road:?}, the units of ({a}, {b})");
+        let twice = 2 * (flow % r.d);
+        let kinds = [(twice == 0, " whole"), (twice < r.d, " below a half"), (twice == r.d, " a half")];
+        (0, kinds.iter().find(|kind| kind.0).map_or(" above a half", |kind| kind.1))
+    });
+}
+
 fn one_settle(g: &mut Random, work: usize) -> Kind {
     let mut road = random::good_road(g);
     let n = random::size(g);
@@ -616,15 +633,15 @@ fn roads() {
     }
 }
 
-/// The document's cases on road A.
+/// The document's cases on road A, rounded as the request on rounding says.
 #[test]
 fn road_a() {
     let faces = [
         (200, 200, 2, 160),
-        (200, 201, 0, 159),
+        (200, 201, 0, 160),
         (201, 200, 1, 160),
         (100, 600, 2, 80),
-        (100, 601, 0, 79),
+        (100, 601, 0, 80),
         (0, 1000, 2, 0),
         (1, 1000, 0, 0),
     ];
@@ -634,7 +651,7 @@ fn road_a() {
         let (_, entered, _) = raw::forecast(ROAD_A, &[b], &[a], &[0], 1, 1).expect("accepted");
         assert_eq!(entered, units, "the units of ({a}, {b})");
     }
-    assert_eq!(raw::forecast(ROAD_A, &[101], &[0], &[0], 1, 1), Ok((vec![21], 0, 80)));
+    assert_eq!(raw::forecast(ROAD_A, &[101], &[0], &[0], 1, 1), Ok((vec![20], 0, 81)));
     let cells = [300, 150, 700];
     assert_eq!(raw::forecast(ROAD_A, &cells, &[100], &[0], 1, 3), Ok((vec![220, 250, 600], 80, 160)));
     let (letters, modes, counts, queued) = raw::read(ROAD_A, &cells, 100, 0, 4, 3).expect("accepted");
@@ -642,10 +659,39 @@ fn road_a() {
     assert_eq!((counts, queued), (vec![0, 1, 1, 0, 0, 1, 0], 2));
     assert_eq!(raw::rows(ROAD_A, &cells, 100, 0, &[2, 1, 0, 1], 3), Ok(vec![1100, 1250, 3000]));
     assert_eq!(raw::rows(ROAD_A, &[0], 0, 0, &[2, 0], 1), Ok(vec![-1000]));
-    assert_eq!(raw::settle(ROAD_A, &[2], 0, 0, 9, 1), Ok((vec![1], 1, 1)));
+    assert_eq!(raw::settle(ROAD_A, &[2], 0, 0, 9, 1), Ok((vec![0], 1, 1)));
     for (cells, words) in [(0, 3), (1, 7), (2, 16), (5, 182), (10, 10426), (20, 34206521)] {
         assert_eq!(raw::count(cells), Ok(words));
     }
+}
+
+/// The request on rounding, its case first: an exact half passes. The last line shows that not every road empties.
+#[test]
+fn fixed_halves() {
+    let faces = [
+        ([2, 1, 1, 2, 1], 1, 0, 1),
+        ([2, 1, 1, 2, 1], 2, 0, 1),
+        ([2, 1, 1, 12, 6], 1, 0, 1),
+        ([2, 1, 1, 12, 6], 3, 0, 2),
+        ([2, 1, 1, 12, 6], 5, 0, 3),
+        (ROAD_A, 1, 0, 1),
+        (ROAD_A, 2, 0, 2),
+        (ROAD_A, 3, 0, 2),
+        (ROAD_A, 4, 0, 3),
+        (ROAD_A, 200, 997, 1),
+        (ROAD_A, 200, 998, 0),
+        ([2177, 13, 2177, 998_640, 992_712], 991_456, 0, 5920),
+        ([1, 1, 1, 2, 1], 0, 0, 0),
+        ([1, 1, 1, 2, 1], 1, 0, 1),
+        ([1, 1, 1, 2, 1], 1, 2, 0),
+        ([4096, 4096, 4096, 1_000_000, 500_000], 499_999, 0, 499_999),
+    ];
+    for (road, a, b, units) in faces {
+        let (_, entered, _) = raw::forecast(road, &[b], &[a], &[0], 1, 1).expect("accepted");
+        assert_eq!(entered, units, "road {road:?}, the units of ({a}, {b})");
+    }
+    assert_eq!(raw::forecast(ROAD_A, &[7, 2, 9], &[1], &[0], 1, 3), Ok((vec![2, 6, 4], 1, 7)));
+    assert_eq!(raw::settle([4, 1, 1, 4, 2], &[1], 0, 0, 9, 1), Ok((vec![1], 1, 0)));
 }
 
 /// The cases of the request on stations, to the bit.

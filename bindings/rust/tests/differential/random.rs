@@ -86,6 +86,15 @@ pub fn good_road(g: &mut Random) -> [u32; 5] {
     [d, p, q, k * (c + rest), k * c]
 }
 
+/// A density that moves, at the given speed over the divisor, some units and about a half.
+pub fn near_half(g: &mut Random, road: &[u32; 5], speed: u32) -> u32 {
+    let [divisor, _, _, jam, _] = *road;
+    let units = g.from(0, (u64::from(jam) * u64::from(speed) / u64::from(divisor)) as u32);
+    let halves = (2 * u64::from(units) + 1) * u64::from(divisor);
+    let density = halves / (2 * u64::from(speed)) + g.below(3) as u64;
+    density.saturating_sub(1).min(u64::from(jam)) as u32
+}
+
 /// A number that is wrong in most places of a road.
 fn odd_number(g: &mut Random, near: u32) -> u32 {
     match g.below(7) {

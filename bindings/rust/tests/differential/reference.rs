@@ -133,6 +133,16 @@ pub fn numerator(r: &Road, a: i128, b: i128) -> i128 {
     i128::min(r.p * i128::min(a, r.c), r.q * (r.j - i128::max(b, r.c)))
 }
 
+/// The units of a flow numerator: the nearest whole number to f / D, an exact half up.
+pub fn units(r: &Road, f: i128) -> i128 {
+    let (whole, rest) = (f / r.d, f % r.d);
+    if rest < r.d - rest {
+        whole
+    } else {
+        whole + 1
+    }
+}
+
 /// The letter between a and b; each pair has one.
 pub fn letter(r: &Road, a: i128, b: i128) -> u8 {
     let w = b > r.c && r.q * (r.j - b) < r.p * a;
@@ -161,7 +171,7 @@ pub fn word_of(r: &Road, cells: &[i128], up: i128, down: i128) -> Vec<u8> {
 /// The next densities, and the units over each face.
 pub fn step(r: &Road, cells: &[i128], up: i128, down: i128) -> (Vec<i128>, Vec<i128>) {
     let units: Vec<i128> =
-        with_ends(cells, up, down).windows(2).map(|pair| numerator(r, pair[0], pair[1]).div_euclid(r.d)).collect();
+        with_ends(cells, up, down).windows(2).map(|pair| units(r, numerator(r, pair[0], pair[1]))).collect();
     let next = (0..cells.len()).map(|i| cells[i] + units[i] - units[i + 1]).collect();
     (next, units)
 }

@@ -1,21 +1,28 @@
--- `flux::Factor::part` meets its contract: the product fits 64 bits, and its upper half is little more than the density.
+-- `flux::Factor::part` meets its contract: product and offset fit 64 bits, and their upper half is little more than the density.
 use mathlib.Core.Path.{refl}
-use Prim.Native.Nat.{_+_}
 use native.Mathlib.Omega.{arith}
-use Rattle.road.proofs.Product.{below}
 use Rattle.flux.specs.Pace.{part}
-use Rattle.flux.proofs.Multiplier.{upper-half-fits}
+use Rattle.flux.proofs.Multiplier.{product-small, upper-half-fits}
 use borrow.Author.Needs.{needs}
 use Rattle.flux.proofs.pace.Factor.part.Statement.{statement}
 use Rattle.flux.proofs.pace.Factor.part.Tie as tie
 
 mul-result : tie.Need-mul-result
-mul-result c = record { fits = below 32 (omega arith) (search needs) }
+mul-result c =
+    let s = c .before in
+    let small = product-small (s .args .a) (s .args .self .times) 0 (s .pre) (search needs) (omega arith) in
+    record { fits = omega arith }
+
+add-result : tie.Need-add-result
+add-result c =
+    let s = c .before .before in
+    let small = product-small (s .args .a) (s .args .self .times) (s .args .self .offset) (s .pre) (search needs) (search needs) in
+    record { fits = omega arith }
 
 cast-result-3 : tie.Need-cast-result-3
 cast-result-3 c =
     let s = c .before .before in
-    upper-half-fits (s .args .a + s .args .self .more) (s .args .self .times) (omega arith) (search needs)
+    upper-half-fits (s .args .a) (s .args .self .times) (s .args .self .offset) (s .pre) (search needs) (search needs)
 
 returns : tie.Need-returns
 unfolding part
@@ -24,4 +31,4 @@ returns c = refl
 pub part-spec : {M : Type 1} → statement M
 part-spec =
     tie.close
-    (tie.spec (λ c. search needs) (λ c. search needs) (λ c. search needs) mul-result cast-result-3 returns)
+    (tie.spec (λ c. search needs) mul-result (λ c. search needs) add-result cast-result-3 returns)

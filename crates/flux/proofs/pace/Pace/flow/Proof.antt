@@ -3,7 +3,7 @@ use mathlib.Core.Path.{_∙_, ap, ap₂}
 use Prim.Native.Nat.{ℕ, _-_, min}
 use native.Mathlib.Nat.{le-trans}
 use native.Mathlib.Omega.{arith}
-use Rattle.flux.proofs.Multiplier.{send-more, receive-more, send-small, receive-small, capacity-small, paced-flow}
+use Rattle.flux.proofs.Multiplier.{send-small, receive-small, capacity-small, paced-flow}
 use borrow.Author.Needs.{needs}
 use Rattle.flux.proofs.pace.Pace.flow.Statement.{statement}
 use Rattle.flux.proofs.pace.Pace.flow.Tie as tie
@@ -11,12 +11,13 @@ use Rattle.flux.proofs.pace.Pace.flow.Tie as tie
 part-requires : tie.Need-part-requires
 part-requires c κs =
     let s = c .before .before in
-    (le-trans (s .pre .1 .1 .0) (s .pre .0 .jam-high), send-more (s .args .self) (s .pre .0) (s .pre .1 .0))
+    le-trans (s .pre .1 .1 .0) (s .pre .0 .jam-high)
 
 part-requires-2 : tie.Need-part-requires-2
 part-requires-2 c κs =
     let s = c .before .before .before .before in
-    (let j = s .pre .0 .jam-high in omega arith, receive-more (s .args .self) (s .pre .0) (s .pre .1 .0))
+    let j = s .pre .0 .jam-high in
+    omega arith
 
 least-requires : tie.Need-least-requires
 least-requires c κs =
