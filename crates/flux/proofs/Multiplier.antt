@@ -3,7 +3,7 @@ use mathlib.Core.Path.{_≡_, _∙_, sym, ap}
 use mathlib.Core.Bool.{Bool}
 use mathlib.Core.Logic.{_⊎_, inl, inr}
 use Prim.Native.Nat.{ℕ, _+_, _-_, _*_, _/_, _^_, _≤_, _<_, min, max}
-use native.Mathlib.Nat.{mul-comm, le-trans, mul-le-mul, mul-le-mul-left, mul-le-mul-right, le-of-mul-le-mul-right, lt-of-mul-lt-mul-right, div-mul-le-self, lt-div-mul-add, div-eq-of-lt-le, div-lt-iff-lt-mul, le-of-lt, le-of-eq, eq-or-lt-of-le}
+use native.Mathlib.Nat.{mul-comm, le-trans, mul-le-mul, mul-le-mul-left, mul-le-mul-right, le-of-mul-le-mul-right, lt-of-mul-lt-mul-right, div-eq-of-lt-le, div-lt-iff-lt-mul, le-of-lt, le-of-eq, eq-or-lt-of-le}
 use native.Mathlib.Omega.{arith}
 use lib.Dec.{lit<, lit≤}
 use borrow.Author.Tests.{lt-ltb, le-ltb}
@@ -17,7 +17,7 @@ use Rattle.flux.specs.Face.{sending, receiving, numerator, units}
 use Rattle.flux.specs.Pace.{multiplier, slowFactor, wholeFactor, factorOf, part, paceOf}
 use Rattle.flux.specs.declared.pace.Factor.{Factor}
 use Rattle.flux.specs.declared.pace.Pace.{Pace}
-use Rattle.flux.proofs.Rounding.{units-half, units-exact, units-at-most, units-min}
+use Rattle.flux.proofs.Rounding.{Quotient, quotient, units-half, units-exact, units-at-most, units-min}
 use Rattle.flux.proofs.Scaling.{min-times}
 
 -- a quotient over b of x, rounded up to whole parts of 1/d
@@ -26,20 +26,17 @@ pub record Up (x b d up : ℕ) : Type 0 where
   pub least : up * d < x * b + d
 
 -- with p/d and h/d rounded up over b, a × p + h divided by d is read off the product, where b holds more than a + 1 errors.
--- Any h below d serves, so that another rounding of the flow costs no other law
+-- Any h serves, so that another rounding of the flow costs no other law
 pub by-multiplier : (d b a p h m e : ℕ) → 0 < d → (a + 1) * d ≤ b → Up p b d m → Up h b d e → (a * p + h) / d ≡ (a * m + e) / b
 by-multiplier d b a p h m e pos wide M H = sym (div-eq-of-lt-le b low high)
   where
-    kd : (a * p + h) / d * d ≤ a * p + h
-    kd = div-mul-le-self (a * p + h) d
-
-    dk : a * p + h < (a * p + h) / d * d + d
-    dk = lt-div-mul-add pos
+    whole : Quotient (a * p + h) d ((a * p + h) / d)
+    whole = quotient pos
 
     low : (a * p + h) / d * b ≤ a * m + e
     low =
         le-of-mul-le-mul-right
-        (let s = mul-le-mul-right b kd in
+        (let s = mul-le-mul-right b (whole .low) in
         let t = mul-le-mul-left a (M .enough) in
         let u = H .enough in
         omega arith)
@@ -48,7 +45,7 @@ by-multiplier d b a p h m e pos wide M H = sym (div-eq-of-lt-le b low high)
     high : a * m + e < ((a * p + h) / d + 1) * b
     high =
         lt-of-mul-lt-mul-right d
-        (let s = mul-le-mul-right b dk in
+        (let s = mul-le-mul-right b (whole .high) in
         let t = mul-le-mul-left a (M .least) in
         let u = H .least in
         let w = wide in
@@ -58,8 +55,7 @@ by-multiplier d b a p h m e pos wide M H = sym (div-eq-of-lt-le b low high)
 rounded-up : (x d : ℕ) → 0 < d → Up x (2 ^ 32) d (multiplier x d)
 unfolding multiplier
 rounded-up x d pos =
-    let low = div-mul-le-self (x * 2 ^ 32 + (d - 1)) d in
-    let high = lt-div-mul-add {a = x * 2 ^ 32 + (d - 1)} pos in
+    let whole : Quotient _ _ (multiplier x d) = quotient pos in
     record { enough = omega arith; least = omega arith }
 
 -- the multiplier of a fraction below one fits 32 bits

@@ -7,6 +7,14 @@ use native.Mathlib.Omega.{arith}
 use Rattle.road.specs.declared.Road.{Road}
 use Rattle.flux.specs.Face.{units, NearestUnits}
 
+-- q is a divided by b, rounded down
+pub record Quotient (a b q : ℕ) : Type 0 where
+  pub low : q * b ≤ a
+  pub high : a < q * b + b
+
+pub quotient : {a b : ℕ} → 0 < b → Quotient a b (a / b)
+quotient {a} {b} positive = record { low = div-mul-le-self a b; high = lt-div-mul-add positive }
+
 -- a larger number has no smaller nearest one
 nearest-monotone : {d f g u v : ℕ} → f ≤ g → NearestUnits d f u → NearestUnits d g v → u ≤ v
 nearest-monotone {d} {f} {g} {u} {v} h one other =
@@ -23,16 +31,13 @@ module _ (r : Road) (positive : 0 < r .divisor) where
   pub units-nearest : (f : ℕ) → NearestUnits (r .divisor) f (units r f)
   unfolding units
   units-nearest f =
-      let twice : 0 < 2 * r .divisor = omega arith in
-      let low = div-mul-le-self (2 * f + r .divisor) (2 * r .divisor) in
-      let high = lt-div-mul-add {a = 2 * f + r .divisor} twice in
+      let whole : Quotient _ _ (units r f) = quotient (omega arith) in
       record { low = omega arith; high = omega arith }
 
   -- a multiple of the divisor passes through whole
   pub units-shift : (f k : ℕ) → units r (f + k * r .divisor) ≡ units r f + k
   units-shift f k =
-      let low = units-nearest f .low in
-      let high = units-nearest f .high in
+      let nearest = units-nearest f in
       nearest-once (units-nearest (f + k * r .divisor)) (record { low = omega arith; high = omega arith })
 
   -- a larger numerator moves no fewer units
@@ -45,8 +50,8 @@ module _ (r : Road) (positive : 0 < r .divisor) where
   -- two rounding errors differ by less than the divisor
   pub units-spread : (f g : ℕ) → f + units r g * r .divisor < g + units r f * r .divisor + r .divisor
   units-spread f g =
-      let low = units-nearest g .low in
-      let high = units-nearest f .high in
+      let one = units-nearest f in
+      let other = units-nearest g in
       omega arith
 
   -- from these four alone:
@@ -70,6 +75,5 @@ module _ (r : Road) (positive : 0 < r .divisor) where
   -- half the divisor added first, then rounded down: an odd divisor loses nothing, since 2 × f is even
   pub units-half : (f : ℕ) → units r f ≡ (f + r .divisor / 2) / r .divisor
   units-half f =
-      let low = div-mul-le-self (f + r .divisor / 2) (r .divisor) in
-      let high = lt-div-mul-add {a = f + r .divisor / 2} positive in
+      let whole = quotient {a = f + r .divisor / 2} positive in
       nearest-once (units-nearest f) (record { low = omega arith; high = omega arith })

@@ -1,5 +1,5 @@
 // Level 2, public: the reading of a state and the fit test of a word. No call asks anything of its input: each judges it, and
-// refuses what the table refuses.
+// refuses what the table refuses. Internal, for `rows`: `mode_of`.
 mod fitting;
 mod mode;
 mod reading;

@@ -2,6 +2,7 @@
 ghost use mathlib.Core.Path.{_≡_};
 ghost use Prim.Native.Nat.{_≤_};
 ghost use lib.ListN.{length};
+use worked::few;
 
 // The letters, and two codes that are no letters, the first and another.
 const W: u8 = 0;
@@ -43,15 +44,7 @@ pub const LLWL: u8 = 45;
 pub fn count(name: u8) -> usize
     ensures { λ r. ⌜ r ≤ 4 ⌝ }
 {
-    if name < 20 {
-        1
-    } else if name < 30 {
-        2
-    } else if name < 40 {
-        3
-    } else {
-        4
-    }
+    few::tens(name, 4)
 }
 
 // The word of a name, with no letters behind its last one.

@@ -49,19 +49,19 @@ pub const ABOVE_AT_2_AND_3: u8 = 33;
 
 pub const FEW_UNITS: u8 = 34;
 
+// The tens of a name, or the most there can be.
+pub fn tens(name: u8, most: usize) -> usize
+    ensures { λ r. ⌜ r ≤ most ⌝ }
+{
+    let tens = (name / 10) as usize;
+    if tens < most { tens } else { most }
+}
+
 // How many densities the list of a name has.
 pub fn count(name: u8) -> usize
     ensures { λ r. ⌜ r ≤ 3 ⌝ }
 {
-    if name < 10 {
-        0
-    } else if name < 20 {
-        1
-    } else if name < 30 {
-        2
-    } else {
-        3
-    }
+    tens(name, 3)
 }
 
 // The list of a name, with zeros behind its last density.
