@@ -1,4 +1,4 @@
-/* Times four of the proved calls against plain and tuned C on the same input, interleaved, best of many, and prints
+/* Times five of the proved calls against plain and tuned C on the same input, interleaved, best of many, and prints
  * ratios. What a proved call spends on judging its input is part of its time; the C kernels judge nothing. */
 #include <stdio.h>
 #include <stdlib.h>
@@ -7,7 +7,8 @@
 #include "kernels.h"
 #include "welgadou.h"
 
-/* The proved calls of an earlier state of this project, where `run` was given one: one kernel more in each contest. */
+/* The proved calls of an earlier state of this project, where `run` was given one: one kernel more in each contest,
+ * but not yet in the ranking's. */
 #ifdef BEFORE
 #define EARLIER(kernel) kernel,
 enum { ONE_MORE = 1 };
@@ -23,11 +24,16 @@ static const struct road road = { 4095, 3276, 819, 1000000, 200000 };
 static uint32_t cells[CELLS], up[STEPS], down[STEPS];
 static uint8_t word[CELLS + 1];
 static struct result {
-    uint32_t cells[CELLS], settled, steps, counts[7], queued;
+    uint32_t cells[CELLS], settled, steps, counts[7], queued, numbers[CELLS];
+    int32_t changes[CELLS];
     uint64_t entered, left;
     int64_t rows[CELLS];
     uint8_t letters[CELLS + 1], modes[CELLS];
 } results[KERNELS];
+
+/* For the ranking also the same at a thousandth of the jam, and densities that rise: their changes fall in size. */
+static const struct road small_road = { 5, 4, 1, 1000, 200 };
+static uint32_t small_cells[CELLS], rising[CELLS];
 
 /* The calls: run kernel k on the first n cells, with so many steps. */
 static void run_forecast(int k, size_t n, uint32_t steps)
@@ -61,6 +67,33 @@ static void run_rows(int k, size_t n, uint32_t steps)
     kernels[k](&road, cells, n, up[0], down[0], word, results[k].rows);
 }
 
+/* No earlier kernel yet: the state before the first with this call has none to link. */
+static void rank(int k, const struct road *r, const uint32_t *x, size_t n, uint32_t before, uint32_t after)
+{
+    static ranker *const kernels[] = { plain_nearest, tuned_nearest, proved_nearest };
+    kernels[k](r, x, n, before, after, results[k].numbers, results[k].changes);
+}
+
+static void run_nearest(int k, size_t n, uint32_t steps)
+{
+    (void)steps;
+    rank(k, &road, cells, n, up[0], down[0]);
+}
+
+/* The time must not grow with the jam. */
+static void run_small(int k, size_t n, uint32_t steps)
+{
+    (void)steps;
+    rank(k, &small_road, small_cells, n, up[0] / 1000, down[0] / 1000);
+}
+
+/* The most there is to do: all are below critical, and each next one is nearer to it and sinks past all before it. */
+static void run_rising(int k, size_t n, uint32_t steps)
+{
+    (void)steps;
+    rank(k, &road, rising, n, 0, 0);
+}
+
 /* A call with its kernels, plain C first and the proved one last, and how often it is made for one time. */
 static const struct contest {
     const char *call, *names[KERNELS];
@@ -73,6 +106,9 @@ static const struct contest {
       run_settle },
     { "read", { "plain C", "tuned C, two passes", EARLIER("before") "welgadou_read" }, 3 + ONE_MORE, 1000, 0, run_read },
     { "rows", { "plain C", "tuned C, two passes", EARLIER("before") "welgadou_rows" }, 3 + ONE_MORE, 1000, 0, run_rows },
+    { "nearest", { "plain C", "tuned C, counting", "welgadou_nearest" }, 3, 100, 0, run_nearest },
+    { "nearest, jam 1000", { "plain C", "tuned C, counting", "welgadou_nearest" }, 3, 100, 0, run_small },
+    { "nearest, wrong way round", { "plain C", "tuned C, counting", "welgadou_nearest" }, 3, 100, 0, run_rising },
 };
 
 static double seconds(void)
@@ -143,6 +179,10 @@ int main(void)
     uint32_t seed = 1;
     for (int i = 0; i < CELLS; i++)
         cells[i] = (seed = seed * 1664525u + 1013904223u) % (road.jam + 1);
+    for (int i = 0; i < CELLS; i++) {
+        small_cells[i] = cells[i] / 1000;
+        rising[i] = (uint32_t)i;
+    }
     for (int t = 0; t < STEPS; t++) {
         up[t] = (seed = seed * 1664525u + 1013904223u) % (road.jam + 1);
         down[t] = (seed = seed * 1664525u + 1013904223u) % (road.jam + 1);

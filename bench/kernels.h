@@ -14,9 +14,12 @@ typedef void reader(const struct road *, const uint32_t *cells, size_t n, uint32
                     uint8_t *modes, uint32_t *counts, uint32_t *queued);
 typedef void predictor(const struct road *, const uint32_t *cells, size_t n, uint32_t up, uint32_t down,
                        const uint8_t *word, int64_t *out);
+typedef void ranker(const struct road *, const uint32_t *cells, size_t n, uint32_t up, uint32_t down, uint32_t *numbers,
+                    int32_t *changes);
 
 forecaster plain_forecast, tuned_one_pass, tuned_two_passes, proved_forecast, before_forecast;
 settler plain_settle, tuned_settle, proved_settle, before_settle;
 reader plain_read, tuned_read, proved_read, before_read;
 predictor plain_rows, tuned_rows, proved_rows, before_rows;
+ranker plain_nearest, tuned_nearest, proved_nearest;
 #endif

@@ -45,3 +45,11 @@ void proved_rows(const struct road *r, const uint32_t *x, size_t n, uint32_t bef
     uint32_t number = welgadou_rows(WELGADOU_ROAD(*r), x, n, before, after, letters, n + 1, out, n, &place);
     accepted(number, place);
 }
+
+void proved_nearest(const struct road *r, const uint32_t *x, size_t n, uint32_t before, uint32_t after,
+                    uint32_t *numbers, int32_t *changes)
+{
+    uint32_t place;
+    uint32_t number = welgadou_nearest(WELGADOU_ROAD(*r), x, n, before, after, numbers, n, changes, n, &place);
+    accepted(number, place);
+}

@@ -135,8 +135,8 @@
 extern "C" {
 #endif
 
-/* The version of this header: ten thousand a major, a hundred a minor version. 0.4.0 is 400. */
-#define WELGADOU_VERSION 400
+/* The version of this header: ten thousand a major, a hundred a minor version. 0.5.0 is 500. */
+#define WELGADOU_VERSION 500
 
 /* Returns: the version of the library that is linked, WELGADOU_VERSION where it is the one of this header. */
 uint32_t welgadou_version(void);
@@ -352,6 +352,9 @@ uint32_t welgadou_count(uint32_t cells, uint64_t *words, uint32_t *place);
  * in doubles, each operation rounded once, to nearest. Densities are in units a cell, flows in units a step, speeds in
  * cells a step, fractions allowed. A given number is finite and not below 0; -0.0 counts as 0. An accepted estimate is
  * from 0 to jam: welgadou_candidate accepts it in each of its three places, on the same road.
+ *
+ * How near is the next mode? A detector's error misleads an operator where it alters the word of the state, from which
+ * the modes are read. welgadou_nearest says for each cell how large such an error is at least.
  * ------------------------------------------------------------------------------------------------------------------ */
 
 /* Takes a station's density for the estimate, unchanged bit for bit.
@@ -395,6 +398,30 @@ uint32_t welgadou_station_flow(uint32_t divisor, uint32_t free, uint32_t wave, u
 uint32_t welgadou_station_speed(uint32_t divisor, uint32_t free, uint32_t wave, uint32_t jam, uint32_t critical,
                                 double speed,
                                 double *estimate, uint32_t *place);
+
+/* Ranks the cells by how small a change of the one cell's density alters the state's word, all other cells and both ends
+ * as they are. A cell's change is the smallest in size with which its density stays from 0 to jam and the word does not
+ * stay as it was; where as much down as up would do, it is the one down. Every cell has such a change, and no change of
+ * smaller size alters the word.
+ *
+ * Returns:  0, or the number of the refusal.
+ * In:       divisor, free, wave, jam, critical: the road.
+ *           cells, cells_len:             the densities, n = cells_len of them.
+ *           upstream, downstream:         the densities beyond the two ends.
+ * Out:      numbers, numbers_len:         the cells, each once, the one with the smallest change in size first and cells
+ *                                         with changes of one size in their order; numbered from 1; numbers_len is n.
+ *           changes, changes_len:         the change of the cell at the same place of numbers, above 0 for more units and
+ *                                         below 0 for fewer, from -jam to jam and never 0; changes_len is n.
+ *                                         cells[numbers[k] - 1] + changes[k] is the density that alters the word.
+ *           place:                        0, or the place of the refusal.
+ * Refusals: 1 to 5, 8 to 11; 8 where either output has the wrong length.
+ */
+uint32_t welgadou_nearest(uint32_t divisor, uint32_t free, uint32_t wave, uint32_t jam, uint32_t critical,
+                          const uint32_t *cells, size_t cells_len,
+                          uint32_t upstream, uint32_t downstream,
+                          uint32_t *numbers, size_t numbers_len,
+                          int32_t *changes, size_t changes_len,
+                          uint32_t *place);
 
 #ifdef __cplusplus
 }

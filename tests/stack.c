@@ -32,6 +32,8 @@ static uint32_t settled, steps, counts[7], queued, holds, face, place, number;
 static uint64_t entered, left, words;
 static uint8_t letters[CELLS + 2], modes[CELLS + 1];
 static int64_t rows[CELLS + 1];
+static uint32_t ranked[CELLS + 1];
+static int32_t changes[CELLS + 1];
 static double given[3], result;
 static volatile uint32_t asked;
 
@@ -89,6 +91,11 @@ static void station_speed(void)
     number = welgadou_station_speed(WELGADOU_ROAD(road), given[0], &result, &place);
 }
 
+static void nearest(void)
+{
+    number = welgadou_nearest(WELGADOU_ROAD(road), cells, n, upstream[0], downstream[0], ranked, n, changes, n, &place);
+}
+
 static void numbers(void)
 {
     asked = welgadou_version() + welgadou_cells_ceiling() + welgadou_horizon_ceiling() + welgadou_divisor_ceiling()
@@ -112,6 +119,7 @@ static struct {
     { "station_density", station_density, 0, 0, 0 },
     { "station_flow", station_flow, 0, 0, 0 },
     { "station_speed", station_speed, 0, 0, 0 },
+    { "nearest", nearest, 0, 0, 0 },
     { "version, ceilings", numbers, 0, 0, 0 },
 };
 enum { CALLS = sizeof calls / sizeof *calls };

@@ -71,6 +71,8 @@ int main(void)
     uint8_t letters[CELLS + 1], modes[CELLS];
     int64_t rows[CELLS];
     double numerator, estimate;
+    uint32_t numbers[CELLS];
+    int32_t changes[CELLS];
     uint32_t horizon;
     int i;
 
@@ -166,6 +168,14 @@ int main(void)
     if (refused("station speed", number, place))
         return 1;
     printf(" %.2f\n", estimate);
+
+    /* Level 3: which detector error would mislead, the most fragile cell first. */
+    number = welgadou_nearest(WELGADOU_ROAD(road), cells, CELLS, 100, 0, numbers, CELLS, changes, CELLS, &place);
+    if (refused("nearest", number, place))
+        return 1;
+    printf("the next mode is near:");
+    for (i = 0; i < CELLS; i++)
+        printf(" cell %" PRIu32 " by %" PRId32 "%s", numbers[i], changes[i], i < CELLS - 1 ? "," : "\n");
 
     /* A refusal: D may not follow W. */
     letters[1] = WELGADOU_W;

@@ -61,6 +61,11 @@ extern "C" {
         divisor: u32, free: u32, wave: u32, jam: u32, critical: u32, speed: f64, estimate: *mut f64,
         place: *mut u32,
     ) -> u32;
+    fn welgadou_nearest(
+        divisor: u32, free: u32, wave: u32, jam: u32, critical: u32, cells: *const u32, cells_len: usize,
+        upstream: u32, downstream: u32, numbers: *mut u32, numbers_len: usize, changes: *mut i32, changes_len: usize,
+        place: *mut u32,
+    ) -> u32;
 }
 
 /// Number 0 is an accepted call.
@@ -267,6 +272,26 @@ pub(crate) fn station_speed(r: &Road, speed: f64, estimate: &mut f64) -> Result<
     #[rustfmt::skip]
     let number = unsafe {
         welgadou_station_speed(r.divisor, r.free, r.wave, r.jam, r.critical, speed, estimate, &mut place)
+    };
+    judged(number, place)
+}
+
+pub(crate) fn nearest(
+    r: &Road,
+    cells: &[u32],
+    upstream: u32,
+    downstream: u32,
+    numbers: &mut [u32],
+    changes: &mut [i32],
+) -> Result<(), Refusal> {
+    let mut place = 0;
+    // SAFETY: each pointer comes from a borrow, with that borrow's length (see the top of this file).
+    #[rustfmt::skip]
+    let number = unsafe {
+        welgadou_nearest(
+            r.divisor, r.free, r.wave, r.jam, r.critical, cells.as_ptr(), cells.len(), upstream, downstream,
+            numbers.as_mut_ptr(), numbers.len(), changes.as_mut_ptr(), changes.len(), &mut place,
+        )
     };
     judged(number, place)
 }

@@ -1,4 +1,4 @@
-//! Level 3: station readings.
+//! Level 3: station readings, and how near the next mode is.
 
 use crate::{ffi, Refusal, Road};
 
@@ -54,4 +54,39 @@ pub fn station(road: &Road, reading: StationReading) -> Result<f64, Refusal> {
         StationReading::Speed(speed) => ffi::station_speed(road, speed, &mut estimate)?,
     }
     Ok(estimate)
+}
+
+/// Ranks the cells by how small a change of the one cell's density alters the state's word, all other cells and both
+/// ends as they are. A cell's change is the smallest in size with which its density stays from 0 to `jam` and the word
+/// does not stay as it was, and below 0, for fewer units, where as much down as up would do. `numbers` gets the cells,
+/// numbered from 1, the one with the smallest change in size first and cells with changes of one size in their order;
+/// `changes` gets the change of the cell at the same place. Both are as long as `cells`. Refuses with the numbers 1 to 5
+/// and 8 to 11.
+///
+/// ```
+/// use welgadou::letter::{D, L, W};
+/// use welgadou::Fit;
+///
+/// let road = welgadou::Road { divisor: 5, free: 4, wave: 1, jam: 1000, critical: 200 };
+/// let (mut numbers, mut changes) = ([0; 3], [0; 3]);
+/// welgadou::nearest(&road, &[300, 150, 700], 100, 0, &mut numbers, &mut changes)?;
+/// assert_eq!((numbers, changes), ([2, 1, 3], [51, -100, -300]));
+/// // Cell 2: with 50 more the state keeps its word, with 51 more it does not.
+/// assert_eq!(welgadou::fit(&road, &[300, 200, 700], 100, 0, &[D, L, W, L])?, Fit::Holds);
+/// assert_eq!(welgadou::fit(&road, &[300, 201, 700], 100, 0, &[D, L, W, L])?, Fit::FailsAt(1));
+///
+/// let refusal = welgadou::nearest(&road, &[300, 150, 700], 100, 0, &mut numbers, &mut changes[..2]).unwrap_err();
+/// assert_eq!((refusal.number, refusal.place), (8, 0));
+/// assert_eq!((numbers, changes), ([2, 1, 3], [51, -100, -300]));
+/// # Ok::<(), welgadou::Refusal>(())
+/// ```
+pub fn nearest(
+    road: &Road,
+    cells: &[u32],
+    upstream: u32,
+    downstream: u32,
+    numbers: &mut [u32],
+    changes: &mut [i32],
+) -> Result<(), Refusal> {
+    ffi::nearest(road, cells, upstream, downstream, numbers, changes)
 }

@@ -33,7 +33,7 @@ mod road;
 
 pub use level1::{forecast, settle, Settlement, Totals};
 pub use level2::{candidate, count, fit, read, rows, Counts, Fit};
-pub use level3::{station, StationReading};
+pub use level3::{nearest, station, StationReading};
 pub use refusal::Refusal;
 pub use road::Road;
 

@@ -37,7 +37,7 @@ density 20. The last keyword is end.
   cells N ..         densities, cell 1 first; several lines are joined
   upstream N ..      the upstream end at each step; joined
   downstream N ..    the downstream end at each step; joined
-  pair UP DOWN       the one end pair of settle, read, readlast, fit and rows
+  pair UP DOWN       the end pair of settle, read, readlast, fit, rows, nearest
   horizon T          steps
   word X ..          letters W, L, D or codes 0, 1, 2, face 0 first; joined
   mode M             1 to 7
@@ -63,6 +63,7 @@ fn asked(page: &mut Page) {
   candidate          needs road mode, and estimates or bits
   count N            legal words for N cells
   station            needs road, and density, or flow and speed, or speed
+  nearest            needs road cells pair; how near each cell's next mode is
   end                the last keyword
 ",
     );

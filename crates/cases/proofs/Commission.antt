@@ -1,12 +1,13 @@
 -- The commission is met: each sentence from the public contracts alone, the printed table of the modes by computation.
-use mathlib.Core.Path.{_≡_, _∙_, refl, sym, ap}
+use mathlib.Core.Path.{_≡_, _∙_, refl, sym, ap, subst}
 use mathlib.Core.Bool.{Bool, true, false}
 use mathlib.Core.List.{List, map}
-use Prim.Native.Nat.{ℕ}
+use Prim.Native.Nat.{ℕ, _-_, _<_}
 use native.Mathlib.Omega.{arith}
 use lib.Dec.{T, eqb}
 use lib.IntN.{ℤ, pos}
 use lib.Ieee.{Float, fin, binary64, ofInt}
+use lib.ListN.{length, getD}
 use borrow.Author.Tests.{eq-eqb, ne-eqb}
 use Rattle.choice.specs.Choice.{pick}
 use Rattle.road.specs.Table.{Row, judge, rising, Judged}
@@ -39,8 +40,9 @@ use Rattle.counting.specs.LegalWordsCounted.{LegalWordsCounted}
 use Rattle.rows.proofs.SevenModes.{seven-modes}
 use Rattle.site.specs.Station as Station
 use Rattle.site.specs.Station.{estimateOf, stationRefusal, stationAnswer, stationMeaning}
+use Rattle.site.specs.Nearest.{alters, ranking, numbersOf, changesOf, nearestRefusal, nearestAnswer, nearestNumber, nearestNumbers, nearestChanges, Smallest, Ranked}
 use Rattle.welgadou.specs.Parts.{flagOf}
-use Rattle.cases.specs.Calls.{ValuePlaces, PairWordPlaces, EstimatePlace, Outcome, Called, forecast, settle, read, fit, predict, candidate, count, station, welgadou-forecast, welgadou-settle, welgadou-read, welgadou-fit, welgadou-rows, welgadou-candidate, welgadou-count, welgadou-station, AcceptedForecast, ForecastMade, AcceptedSettling, SettlingMade, AcceptedReading, ReadingMade, AcceptedFit, FitMade, AcceptedRows, RowsMade, AcceptedCandidate, CandidateMade, AcceptedCount, CountMade, AcceptedStation, StationMade}
+use Rattle.cases.specs.Calls.{ValuePlaces, PairWordPlaces, EstimatePlace, Outcome, Called, forecast, settle, read, fit, predict, candidate, count, station, nearest, welgadou-forecast, welgadou-settle, welgadou-read, welgadou-fit, welgadou-rows, welgadou-candidate, welgadou-count, welgadou-station, welgadou-nearest, AcceptedForecast, ForecastMade, AcceptedSettling, SettlingMade, AcceptedReading, ReadingMade, AcceptedFit, FitMade, AcceptedRows, RowsMade, AcceptedCandidate, CandidateMade, AcceptedCount, CountMade, AcceptedStation, StationMade, AcceptedRanking, RankingMade}
 use Rattle.cases.specs.Commission.{Demand1, Demand2, Demand3, Commission}
 
 -- what is chosen by a call's number: the value where it is 0, else the former contents
@@ -83,7 +85,7 @@ told-as : {rows : List Row} {Checked : Type 0} {From To : Refusal → Type 0} {f
 told-as {f = f} says j = record { first = j .first; lowest = j .lowest; placed = says f (j .placed); accepted = j .accepted; no-other = j .no-other }
 
 call-told : (o : Outcome) → Called o → Told o
-unfolding forecastRefusal forecastAnswer forecastCells forecastMeaning settleRefusal settleAnswer settleOutput settleMeaning readRefusal readAnswer readLetters readModes fitRefusal fitAnswer fitMeaning predictRefusal predictAnswer predicted candidateRefusal candidateAnswer candidateMeaning countRefusal countAnswer countMeaning stationRefusal stationAnswer stationMeaning
+unfolding forecastRefusal forecastAnswer forecastCells forecastMeaning settleRefusal settleAnswer settleOutput settleMeaning readRefusal readAnswer readLetters readModes fitRefusal fitAnswer fitMeaning predictRefusal predictAnswer predicted candidateRefusal candidateAnswer candidateMeaning countRefusal countAnswer countMeaning stationRefusal stationAnswer stationMeaning nearestRefusal nearestAnswer nearestNumbers nearestChanges
 call-told _ (forecast c) = record {
   judged = told-as value-places (c .judged);
   kept = λ n. former-of _ _ (λ z. n (ap (λ (m : Forecast.Meaning). m .number) (c .means) ∙ z)) (c .output);
@@ -113,6 +115,14 @@ call-told _ (predict c) = record { judged = told-as word-places (c .judged); kep
 call-told _ (candidate {r = r} c) = record { judged = told-as (estimate-place r _ _ _) (c .judged); kept = λ n. tt; table = λ i. record { number = c .means i .number; place = c .means i .place }; checks = refl; rises = tt; made = λ z. (_, value-of _ _ (sym (ap (λ (m : Candidate.Meaning). m .number) (c .means)) ∙ z) (c .answer)) }
 call-told _ (count c) = record { judged = c .judged; kept = λ n. tt; table = λ i. record { number = c .means i .number; place = c .means i .place }; checks = refl; rises = tt; made = λ z. (_, value-of _ _ (sym (ap (λ (m : Count.Meaning). m .number) (c .means)) ∙ z) (c .answer)) }
 call-told _ (station c) = record { judged = c .judged; kept = λ n. tt; table = λ i. record { number = c .means i .number; place = c .means i .place }; checks = refl; rises = tt; made = λ z. (_, value-of _ _ (sym (ap (λ (m : Station.Meaning). m .number) (c .means)) ∙ z) (c .answer)) }
+call-told _ (nearest c) = record {
+  judged = told-as value-places (c .judged);
+  kept = λ n. (former-of _ _ (λ z. n (c .number ∙ z)) (c .numbers-written), former-of _ _ (λ z. n (c .number ∙ z)) (c .changes-written));
+  table = λ i. record { number = c .number i; place = c .place i };
+  checks = refl;
+  rises = tt;
+  made = λ z. value-of _ _ (sym (c .number) ∙ z) (c .answer);
+}
 call-told _ (welgadou-forecast c) = record {
   judged = told-as value-places (c .judged);
   kept = λ n. (former-of _ _ (λ z. n (c .returned ∙ z)) (c .output), former-of _ _ n (c .entered-written), former-of _ _ n (c .left-written));
@@ -147,6 +157,14 @@ call-told _ (welgadou-rows c) = record { judged = told-as word-places (c .judged
 call-told _ (welgadou-candidate {r = r} c) = record { judged = told-as (estimate-place r _ _ _) (c .judged); kept = λ n. former-of _ _ n (c .numerator-written); table = λ i. record { number = c .returned i; place = c .placed i }; checks = refl; rises = tt; made = λ z. tt }
 call-told _ (welgadou-count c) = record { judged = c .judged; kept = λ n. former-of _ _ n (c .words-written); table = λ i. record { number = c .returned i; place = c .placed i }; checks = refl; rises = tt; made = λ z. tt }
 call-told _ (welgadou-station c) = record { judged = c .judged; kept = λ n. former-of _ _ n (c .estimate-written); table = λ i. record { number = c .returned i; place = c .placed i }; checks = refl; rises = tt; made = λ z. tt }
+call-told _ (welgadou-nearest c) = record {
+  judged = told-as value-places (c .judged);
+  kept = λ n. (former-of _ _ (λ z. n (c .returned ∙ z)) (c .numbers-written), former-of _ _ (λ z. n (c .returned ∙ z)) (c .changes-written));
+  table = λ i. record { number = c .returned i; place = c .placed i };
+  checks = refl;
+  rises = tt;
+  made = λ z. tt;
+}
 
 demand1 : Demand1
 demand1 = record {
@@ -253,6 +271,27 @@ station-says _ (station {e = d} c e) =
     (value-of _ _ (sym (ap (λ (x : Station.Meaning). x .number) m)) (ap (λ (x : Station.Meaning). x .density) m), c .feeds d e)
 station-says _ (welgadou-station c z) = (value-of _ _ (sym (c .returned) ∙ z) (value-of _ _ z (c .estimate-written)), c .feeds z)
 
+ranking-says : (x : AcceptedRanking) → RankingMade x → Ranked (x .road) (x .up) (x .down) (x .cells) (x .numbers) (x .changes)
+ranking-says _ (nearest c e) = c .ranked e
+ranking-says _ (welgadou-nearest c z) = c .ranked z
+
+ranking-equals : (x : AcceptedRanking) → RankingMade x
+    → (x .numbers ≡ numbersOf (ranking (x .road) (x .up) (x .down) (x .cells))) × (x .changes ≡ changesOf (ranking (x .road) (x .up) (x .down) (x .cells)))
+unfolding nearestNumbers nearestChanges
+ranking-equals _ (nearest c e) =
+    let z = sym (c .number) ∙ ap nearestNumber e in
+    (value-of _ _ z (c .numbers-written), value-of _ _ z (c .changes-written))
+ranking-equals _ (welgadou-nearest c z) = (value-of _ _ (sym (c .returned) ∙ z) (c .numbers-written), value-of _ _ (sym (c .returned) ∙ z) (c .changes-written))
+
+-- each change is its cell's own, and that is the smallest
+change-says : (x : AcceptedRanking) → RankingMade x → (k : ℕ) → k < length (x .cells) → let i = getD (x .numbers) k 0 - 1 in
+    Smallest (alters (x .road) (x .up) (x .down) (x .cells) i) (x .road .jam) (getD (x .cells) i 0) (getD (x .changes) k (pos 0))
+change-says x c k h =
+    let ranked = ranking-says x c in
+    let (low, high) = ranked .within k h in
+    let i = getD (x .numbers) k 0 - 1 in
+    subst (Smallest (alters (x .road) (x .up) (x .down) (x .cells) i) (x .road .jam) (getD (x .cells) i 0)) (sym (ranked .own k h)) (ranked .exists i (omega arith))
+
 demand2 : Demand2
 unfolding countsOf
 demand2 = record {
@@ -305,6 +344,12 @@ demand2 = record {
   candidate-whole = whole-says;
   candidate-plain = plain-says;
   station = station-says;
+  next-modes = ranking-equals;
+  nearest-change = change-says;
+  nearest-long = λ x c. (ranking-says x c .numbers-long, ranking-says x c .changes-long);
+  nearest-every = λ x c. ranking-says x c .complete;
+  nearest-once = λ x c. ranking-says x c .once;
+  nearest-ordered = λ x c k m h l. (ranking-says x c .ordered k m h l, ranking-says x c .by-cell k m h l);
 }
 
 demand3 : Demand3

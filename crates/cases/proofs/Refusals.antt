@@ -15,10 +15,11 @@ use Rattle.rows.specs.Prediction.{predictAnswer}
 use Rattle.candidate.specs.Candidate.{candidateRefusal, candidateAnswer, candidateMeaning}
 use Rattle.counting.specs.Count.{countRefusal, countAnswer}
 use Rattle.site.specs.Station.{speedDensity, estimateOf, badNumber, badGiven, tooFast, stationRefusal, stationAnswer}
+use Rattle.site.specs.Nearest.{nearestRefusal, nearestAnswer}
 use Rattle.cases.specs.Refusals.{Refusals}
 
 pub refusals : Refusals
-unfolding round sum add mul div lt eq le ne ofInt ofBits orIf roadRefusal firstAbove forecastRefusal forecastAnswer settleRefusal settleAnswer illegalPair offends firstOffence legal readRefusal fitRefusal predictRefusal readAnswer fitAnswer predictAnswer candidateRefusal candidateAnswer candidateMeaning countRefusal countAnswer speedDensity estimateOf badNumber badGiven tooFast stationRefusal stationAnswer
+unfolding round sum add mul div lt eq le ne ofInt ofBits orIf roadRefusal firstAbove forecastRefusal forecastAnswer settleRefusal settleAnswer illegalPair offends firstOffence legal readRefusal fitRefusal predictRefusal readAnswer fitAnswer predictAnswer candidateRefusal candidateAnswer candidateMeaning countRefusal countAnswer speedDensity estimateOf badNumber badGiven tooFast stationRefusal stationAnswer nearestRefusal nearestAnswer
 refusals = record {
   road-1 = refl;
   road-2 = refl;
@@ -103,4 +104,14 @@ refusals = record {
   station-16-zero-speed = refl;
   station-17 = refl;
   station-18 = refl;
+  nearest-1 = refl;
+  nearest-2 = refl;
+  nearest-3 = refl;
+  nearest-4 = refl;
+  nearest-5 = refl;
+  nearest-8-numbers = refl;
+  nearest-8-changes = refl;
+  nearest-9 = refl;
+  nearest-10 = refl;
+  nearest-11 = refl;
 }

@@ -10,7 +10,10 @@ use Rattle.choice.specs.Choice.{pick}
 use Rattle.road.specs.Table.{row, judge, orIf}
 use Rattle.road.specs.Judgement.{roadRows}
 use Rattle.road.specs.declared.refusal.Refusal.{Refusal}
-use Rattle.flux.specs.Face.{sending, receiving, numerator, units}
+use Rattle.flux.specs.Face.{sending, receiving, numerator, units, inW, inL, letter}
+use Rattle.scheme.specs.Sums.{sameList}
+use Rattle.scheme.specs.Word.{wordOf}
+use Rattle.site.specs.Nearest.{alters, searched, change, inserted, rankedTo, ranking}
 use Rattle.site.specs.Station.{whole, speedDensity, estimateOf, badNumber, badGiven, tooFast, badResult, stationRefusal, stationAnswer}
 use Rattle.site.specs.declared.stations.StationReading.{StationReading}
 use Rattle.site.specs.declared.stations.StationReading.the-variants.{Density, FlowAndSpeed, Speed}
@@ -39,7 +42,7 @@ unfolding tests orIf
 too-fast x g f = by-tests x g f refl refl
 
 pub requested : Requested
-unfolding sending receiving numerator units round sum add mul div lt eq le ne ofInt ofBits speedDensity estimateOf badNumber badGiven tooFast
+unfolding sending receiving numerator units inW inL letter wordOf sameList alters searched change inserted rankedTo ranking round sum add mul div lt eq le ne ofInt ofBits speedDensity estimateOf badNumber badGiven tooFast
 requested = record {
   density-1000 = accepted (Density (whole 1000)) 1000 125 (pos 3) refl refl refl refl refl;
   flow-80-speed-0·8 = accepted (FlowAndSpeed (whole 80) four-fifths) 100 25 (pos 2) refl refl refl refl refl;
@@ -48,4 +51,6 @@ requested = record {
   speed-0·6 = accepted (Speed three-fifths) 250 125 (pos 1) refl refl refl refl refl;
   speed-0·8 = too-fast (Speed four-fifths) refl refl;
   half-passes = refl;
+  nearest-three = refl;
+  nearest-tie = refl;
 }

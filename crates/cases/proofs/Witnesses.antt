@@ -24,7 +24,9 @@ use Rattle.rows.proofs.PredictAnswers.{predict-call}
 use Rattle.candidate.proofs.CandidateAnswers.{candidate-call}
 use Rattle.site.specs.Station.{whole, speedDensity, estimateOf, badNumber, badGiven, tooFast, stationRefusal}
 use Rattle.site.specs.declared.stations.StationReading.the-variants.{Density, FlowAndSpeed, Speed}
+use Rattle.site.specs.Nearest.{nearestRefusal}
 use Rattle.site.proofs.StationAnswers.{station-call}
+use Rattle.site.proofs.NearestJudging.{nearest-call}
 use Rattle.cases.specs.Starred.{roadA, three}
 use Rattle.cases.specs.Requests.{fifth, four-fifths}
 use Rattle.cases.specs.Witnesses.{road, ups, downs, ownWord, threeSteps, upToNine, Witnessed}
@@ -48,7 +50,7 @@ module _ (f : Checked roadA three ups downs 3 3) (s : SettleChecked roadA three 
   passes = (forecast-passes, (settle-passes, (forecast-passes, tt)))
 
 pub witnessed : Witnessed
-unfolding round sum add mul div lt eq le ne ofInt ofBits orIf roadRefusal firstAbove forecastRefusal settleRefusal illegalPair offends firstOffence legal readRefusal fitRefusal predictRefusal candidateRefusal speedDensity estimateOf badNumber badGiven tooFast stationRefusal
+unfolding round sum add mul div lt eq le ne ofInt ofBits orIf roadRefusal firstAbove forecastRefusal settleRefusal illegalPair offends firstOffence legal readRefusal fitRefusal predictRefusal candidateRefusal speedDensity estimateOf badNumber badGiven tooFast stationRefusal nearestRefusal
 witnessed = record {
   accepted = accepted-of roadA refl;
   accepted-smallest = accepted-of (road 1 1 1 2 1) refl;
@@ -65,4 +67,5 @@ witnessed = record {
   station-density = checked (station-call roadA (Density (whole 1000))) refl;
   station-flow-and-speed = checked (station-call roadA (FlowAndSpeed (whole 80) four-fifths)) refl;
   station-speed = checked (station-call roadA (Speed fifth)) refl;
+  nearest = checked (nearest-call roadA three 100 0 3 3) refl;
 }

@@ -1,7 +1,7 @@
 -- Every public call there is, of Rattle and of C, by its contract alone: what it did with any input, and what it made of an accepted one.
--- The public calls are those of `forecast`, `modes` and `site` that say no "Internal", and the C form of each. The five ceilings for C take no input and hand
--- back a constant; they have nothing to judge. The answers' cases go by a letter: F forecast, S settling, R reading, T fit test, P row prediction,
--- C candidate, N count, E station.
+-- The public calls are those of `forecast`, `modes`, `rows`, `candidate`, `counting` and `site` that say no "Internal", and the C form of each. The five ceilings
+-- and the version for C take no input and hand back a constant; they have nothing to judge. The answers' cases go by a letter: F forecast, S settling, R reading, T fit test, P row prediction,
+-- C candidate, N count, E station, M ranking of the next modes.
 use mathlib.Core.Path.{_≡_}
 use mathlib.Core.Bool.{Bool, true, false}
 use mathlib.Core.List.{List, [], _∷_}
@@ -52,12 +52,15 @@ use Rattle.site.specs.declared.stations.StationReading.{StationReading}
 use Rattle.site.specs.declared.stations.Estimate.{Estimate}
 use Rattle.site.specs.declared.stations.StationAnswer.{StationAnswer}
 use Rattle.site.specs.declared.stations.StationAnswer.the-variants as E
+use Rattle.site.specs.declared.ranking.NearestAnswer.{NearestAnswer}
+use Rattle.site.specs.declared.ranking.NearestAnswer.the-variants as M
 use Rattle.site.specs.Station as Station
 use Rattle.site.specs.Station.{stationRows, StationChecked, Stations}
+use Rattle.site.specs.Nearest.{nearestRows, nearestNumber, nearestPlace, NearestChecked, Nearests}
 use Rattle.welgadou.specs.Parts.{flagOf}
 use Rattle.welgadou.specs.Level1.{Forecasted, SettledRun}
 use Rattle.welgadou.specs.Level2.{StateRead, WordFitted, RowsPredicted, CandidatePredicted, WordsCounted}
-use Rattle.welgadou.specs.Level3.{StationEstimated}
+use Rattle.welgadou.specs.Level3.{StationEstimated, NearestRanked}
 
 -- a list's first density above j stands at k
 abbrev pub FirstOver : ℕ → List ℕ → ℕ → Type 0
@@ -99,7 +102,7 @@ EstimatePlace r left own right f =
 abbrev pub NoPlace : Refusal → Type 0
 NoPlace f = f .place ≡ 0
 
--- "Calls and their checks" (document 01; document 02, E1): which numbers a call's table has, in their order
+-- "Calls and their checks" (document 01; document 02, E1 and E3): which numbers a call's table has, in their order
 abbrev pub forecastChecks : List ℕ
 forecastChecks = 1 ∷ 2 ∷ 3 ∷ 4 ∷ 5 ∷ 6 ∷ 7 ∷ 8 ∷ 9 ∷ 10 ∷ 11 ∷ []
 
@@ -123,6 +126,10 @@ countChecks = 15 ∷ []
 
 abbrev pub stationChecks : List ℕ
 stationChecks = 1 ∷ 2 ∷ 3 ∷ 4 ∷ 16 ∷ 17 ∷ 18 ∷ []
+
+-- "its checks are those of document 01's reading"
+abbrev pub nearestChecks : List ℕ
+nearestChecks = readChecks
 
 -- what a call did with its input: its rows of the refusal table and their numbers, what an input is that no row refuses, what its places mean, the refusal that came
 -- back (number 0 for none), that every output holds its former contents, and that it answered as an accepted call does (Done; for C a flag is 0 or 1)
@@ -225,6 +232,17 @@ pub data Called : Outcome → Type 1 where
         Kept = Unit {0};
         Made = (e : Estimate) × (a ≡ E.Done e);
       })
+  nearest : {r : Road} {cells : List ℕ} {up down : ℕ} {numbers next-numbers : List ℕ} {changes next-changes : List ℤ} {a : NearestAnswer}
+      → Nearests r cells up down numbers next-numbers changes next-changes a
+      → Called (record {
+        rows = nearestRows r cells up down (length numbers) (length changes);
+        checks = nearestChecks;
+        Checked = NearestChecked r cells up down (length numbers) (length changes);
+        Placed = PairPlaces r cells up down;
+        refusal = refused (nearestNumber a) (nearestPlace a);
+        Kept = (next-numbers ≡ numbers) × (next-changes ≡ changes);
+        Made = a ≡ M.Done;
+      })
   welgadou-forecast : {r : Road} {cells ups downs : List ℕ} {t : ℕ} {out next : List ℕ} {entered entered-next left left-next place number : ℕ}
       → Forecasted r cells ups downs t out next entered entered-next left left-next place number
       → Called (record {
@@ -312,6 +330,17 @@ pub data Called : Outcome → Type 1 where
         Placed = NoPlace;
         refusal = refused number place;
         Kept = estimate-next ≡ estimate;
+        Made = Unit {0};
+      })
+  welgadou-nearest : {r : Road} {cells : List ℕ} {up down : ℕ} {numbers numbers-next : List ℕ} {changes changes-next : List ℤ} {place number : ℕ}
+      → NearestRanked r cells up down numbers numbers-next changes changes-next place number
+      → Called (record {
+        rows = nearestRows r cells up down (length numbers) (length changes);
+        checks = nearestChecks;
+        Checked = NearestChecked r cells up down (length numbers) (length changes);
+        Placed = PairPlaces r cells up down;
+        refusal = refused number place;
+        Kept = (numbers-next ≡ numbers) × (changes-next ≡ changes);
         Made = Unit {0};
       })
 
@@ -457,3 +486,19 @@ pub data StationMade : AcceptedStation → Type 0 where
   welgadou-station : {r : Road} {x : StationReading} {estimate estimate-next : Float} {place number : ℕ}
       → StationEstimated r x estimate estimate-next place number → number ≡ 0
       → StationMade (record { road = r; reading = x; estimate = estimate-next })
+
+pub record AcceptedRanking : Type 0 where
+  pub road : Road
+  pub cells : List ℕ
+  pub up : ℕ
+  pub down : ℕ
+  pub numbers : List ℕ
+  pub changes : List ℤ
+
+pub data RankingMade : AcceptedRanking → Type 0 where
+  nearest : {r : Road} {cells : List ℕ} {up down : ℕ} {numbers next-numbers : List ℕ} {changes next-changes : List ℤ} {a : NearestAnswer}
+      → Nearests r cells up down numbers next-numbers changes next-changes a → a ≡ M.Done
+      → RankingMade (record { road = r; cells = cells; up = up; down = down; numbers = next-numbers; changes = next-changes })
+  welgadou-nearest : {r : Road} {cells : List ℕ} {up down : ℕ} {numbers numbers-next : List ℕ} {changes changes-next : List ℤ} {place number : ℕ}
+      → NearestRanked r cells up down numbers numbers-next changes changes-next place number → number ≡ 0
+      → RankingMade (record { road = r; cells = cells; up = up; down = down; numbers = numbers-next; changes = changes-next })

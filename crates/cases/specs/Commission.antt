@@ -36,7 +36,8 @@ use Rattle.modes.specs.Reading.{countOf, ReadChecked, Reads}
 use Rattle.counting.specs.LegalWordsCounted.{legalWords, StandsAt}
 use Rattle.candidate.specs.Candidate.{rowFor, candidateNumerator}
 use Rattle.site.specs.Station.{estimateOf}
-use Rattle.cases.specs.Calls.{Outcome, Called, AcceptedForecast, ForecastMade, AcceptedSettling, SettlingMade, AcceptedReading, ReadingMade, AcceptedFit, FitMade, AcceptedRows, RowsMade, AcceptedCandidate, CandidateMade, AcceptedCount, CountMade, AcceptedStation, StationMade}
+use Rattle.site.specs.Nearest.{alters, ranking, numbersOf, changesOf, Smallest}
+use Rattle.cases.specs.Calls.{Outcome, Called, AcceptedForecast, ForecastMade, AcceptedSettling, SettlingMade, AcceptedReading, ReadingMade, AcceptedFit, FitMade, AcceptedRows, RowsMade, AcceptedCandidate, CandidateMade, AcceptedCount, CountMade, AcceptedStation, StationMade, AcceptedRanking, RankingMade}
 
 -- of whatever a public call did with its input
 abbrev EachCall : (Outcome → Type 0) → Type 1
@@ -88,6 +89,19 @@ EachCount Says = (x : AcceptedCount) → CountMade x → Says x
 
 abbrev EachStation : (AcceptedStation → Type 0) → Type 0
 EachStation Says = (x : AcceptedStation) → StationMade x → Says x
+
+abbrev EachRanking : (AcceptedRanking → Type 0) → Type 0
+EachRanking Says = (x : AcceptedRanking) → RankingMade x → Says x
+
+-- of each place of a ranking: the cell there, from 0, and its change
+abbrev EachPlace : (AcceptedRanking → ℕ → ℤ → Type 0) → Type 0
+EachPlace Says = EachRanking (λ x. (k : ℕ) → k < length (x .cells) → Says x (getD (x .numbers) k 0 - 1) (getD (x .changes) k (pos 0)))
+
+-- of two places of a ranking, the first before the second: a cell's number and change, and the other's
+abbrev EachTwo : (ℕ → ℤ → ℕ → ℤ → Type 0) → Type 0
+EachTwo Says =
+    EachRanking (λ x. (k m : ℕ) → k < m → m < length (x .cells)
+    → Says (getD (x .numbers) k 0) (getD (x .changes) k (pos 0)) (getD (x .numbers) m 0) (getD (x .changes) m (pos 0)))
 
 -- of each face that a reading reads: the road, the densities a and b beside it, and the letter s written
 abbrev EachFace : (Road → ℕ → ℕ → ℕ → Type 0) → Type 0
@@ -197,6 +211,17 @@ pub record Demand2 : Type 0 where
   pub candidate-plain : EachCandidate (λ x. (e : ℤ) → x .numerator ≡ fin true 0 e → ⊥)
   -- document 02, E1: a station's estimate by its kind, a finite number from 0 to J, as a candidate prediction asks
   pub station : EachStation (λ x. (x .estimate ≡ estimateOf (x .road) (x .reading)) × FiniteUpTo (x .road .jam) (x .estimate))
+  -- document 02, E3: "for each cell the smallest signed change of that cell alone, within 0 to J, that alters the word. Down comes before up when both are equal
+  -- .. Such a change exists for every cell"
+  pub next-modes : EachRanking (λ x.
+      (x .numbers ≡ numbersOf (ranking (x .road) (x .up) (x .down) (x .cells))) × (x .changes ≡ changesOf (ranking (x .road) (x .up) (x .down) (x .cells))))
+  pub nearest-change : EachPlace (λ x i z. Smallest (alters (x .road) (x .up) (x .down) (x .cells) i) (x .road .jam) (getD (x .cells) i 0) z)
+  -- "Its two outputs .. are n long each", and every cell stands in them once
+  pub nearest-long : EachRanking (λ x. (length (x .numbers) ≡ length (x .cells)) × (length (x .changes) ≡ length (x .cells)))
+  pub nearest-every : EachRanking (λ x. (i : ℕ) → i < length (x .cells) → (k : ℕ) × (k < length (x .cells)) × (getD (x .numbers) k 0 ≡ i + 1))
+  pub nearest-once : EachTwo (λ c z d w. c ≡ d → ⊥)
+  -- "The list is ordered by size, then by cell"
+  pub nearest-ordered : EachTwo (λ c z d w. (natAbs z ≤ natAbs w) × (natAbs z ≡ natAbs w → c < d))
 
 -- "For every accepted forecast of T steps on n cells, whatever densities from 0 to jam it starts with and its ends bring step by step"
 pub record Demand3 : Type 0 where

@@ -1,4 +1,4 @@
--- Every number of the refusal table (document 01, "Where each refusal is made"; document 02, E1), pinned by an input: one record, one field a number of a call.
+-- Every number of the refusal table (document 01, "Where each refusal is made"; document 02, E1 and E3), pinned by an input: one record, one field a number of a call.
 -- But where a comment says otherwise the named row alone applies to its input, so that no two numbers can be exchanged. Where a row has a place and room for it, a later
 -- offence stands behind the first one.
 use mathlib.Core.Path.{_≡_}
@@ -29,6 +29,8 @@ use Rattle.counting.specs.declared.counting.CountAnswer.the-variants as Count
 use Rattle.site.specs.Station.{whole, stationAnswer}
 use Rattle.site.specs.declared.stations.StationReading.the-variants.{Density, FlowAndSpeed, Speed}
 use Rattle.site.specs.declared.stations.StationAnswer.the-variants as Station
+use Rattle.site.specs.Nearest.{nearestAnswer}
+use Rattle.site.specs.declared.ranking.NearestAnswer.the-variants as Nearest
 use Rattle.welgadou.specs.Level2.{CandidatePredicted}
 use Rattle.cases.specs.Starred.{roadA, three}
 use Rattle.cases.specs.Requests.{four-fifths}
@@ -166,3 +168,14 @@ pub record Refusals : Type 0 where
   pub station-16-zero-speed : stationAnswer roadA (FlowAndSpeed (whole 80) (whole 0)) ≡ Station.Refused (refused 16 0)
   pub station-17 : stationAnswer roadA (Speed four-fifths) ≡ Station.Refused (refused 17 0)
   pub station-18 : stationAnswer roadA (Density (whole 1001)) ≡ Station.Refused (refused 18 0)
+  -- how near the next mode is: cells, the end pair, lengths of the numbers and of the changes
+  pub nearest-1 : nearestAnswer road1 three 100 0 3 3 ≡ Nearest.Refused (refused 1 0)
+  pub nearest-2 : nearestAnswer road2 three 100 0 3 3 ≡ Nearest.Refused (refused 2 0)
+  pub nearest-3 : nearestAnswer road3 three 100 0 3 3 ≡ Nearest.Refused (refused 3 0)
+  pub nearest-4 : nearestAnswer road4 three 100 0 3 3 ≡ Nearest.Refused (refused 4 0)
+  pub nearest-5 : nearestAnswer roadA [] 100 0 0 0 ≡ Nearest.Refused (refused 5 0)
+  pub nearest-8-numbers : nearestAnswer roadA three 100 0 4 3 ≡ Nearest.Refused (refused 8 0)
+  pub nearest-8-changes : nearestAnswer roadA three 100 0 3 2 ≡ Nearest.Refused (refused 8 0)
+  pub nearest-9 : nearestAnswer roadA above 100 0 3 3 ≡ Nearest.Refused (refused 9 2)
+  pub nearest-10 : nearestAnswer roadA three 1001 0 3 3 ≡ Nearest.Refused (refused 10 0)
+  pub nearest-11 : nearestAnswer roadA three 100 1001 3 3 ≡ Nearest.Refused (refused 11 0)

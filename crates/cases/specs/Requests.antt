@@ -1,15 +1,19 @@
--- The values of document 02, request by request: one record, one field a value. E1 prints none: its values are worked from its words. Those of E2 on road A are among the starred cases.
+-- The values of document 02, request by request: one record, one field a value. E1 and E3 print none: their values are worked from their words. Those of E2 on
+-- road A are among the starred cases.
 use mathlib.Core.Path.{_≡_}
+use mathlib.Core.List.{[], _∷_}
 use Prim.Native.Nat.{ℕ}
+use lib.IntN.{ℤ, pos, negsuc}
 use lib.Ieee.{Float, binary64, ofBits}
 use Rattle.road.specs.Table.{refused}
 use Rattle.road.specs.declared.Road.{Road}
 use Rattle.flux.specs.Face.{numerator, units}
+use Rattle.site.specs.Nearest.{Entry, ranking}
 use Rattle.site.specs.Station.{whole, stationAnswer}
 use Rattle.site.specs.declared.stations.StationReading.{StationReading}
 use Rattle.site.specs.declared.stations.StationReading.the-variants.{Density, FlowAndSpeed, Speed}
 use Rattle.site.specs.declared.stations.StationAnswer.the-variants.{Done, Refused}
-use Rattle.cases.specs.Starred.{roadA}
+use Rattle.cases.specs.Starred.{roadA, three}
 
 -- a float by its bits: the ones nearest to 0.2, 0.6 and 0.8
 abbrev pub fifth : Float
@@ -32,6 +36,10 @@ givesRefusal x number = stationAnswer roadA x ≡ Refused (refused number 0)
 abbrev pub halfRoad : Road
 halfRoad = record { divisor = 2; free = 1; wave = 1; jam = 2; critical = 1 }
 
+-- E3: a cell's number with its change
+abbrev pub entry : ℕ → ℤ → Entry
+entry cell change = record { cell = cell; change = change }
+
 pub record Requested : Type 0 where
   -- E1, station readings
   pub density-1000 : gives (Density (whole 1000)) 1000
@@ -42,3 +50,6 @@ pub record Requested : Type 0 where
   pub speed-0·8 : givesRefusal (Speed four-fifths) 17
   -- E2, an exact half moves up
   pub half-passes : units halfRoad (numerator halfRoad 1 0) ≡ 1
+  -- E3, how near the next mode is: the starred three cells, of which the second is the most fragile; and a cell that is as far from either threshold: down
+  pub nearest-three : ranking roadA 100 0 three ≡ entry 2 (pos 51) ∷ entry 1 (negsuc 99) ∷ entry 3 (negsuc 299) ∷ []
+  pub nearest-tie : ranking roadA 100 204 (400 ∷ []) ≡ entry 1 (negsuc 200) ∷ []

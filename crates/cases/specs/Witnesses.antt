@@ -14,6 +14,7 @@ use Rattle.modes.specs.Fit.{FitChecked}
 use Rattle.rows.specs.Prediction.{PredictChecked}
 use Rattle.candidate.specs.Candidate.{CandidateChecked}
 use Rattle.site.specs.Station.{whole, StationChecked}
+use Rattle.site.specs.Nearest.{NearestChecked}
 use Rattle.site.specs.declared.stations.StationReading.the-variants.{Density, FlowAndSpeed, Speed}
 use Rattle.cases.specs.Starred.{roadA, three}
 use Rattle.cases.specs.Requests.{fifth, four-fifths}
@@ -64,3 +65,5 @@ pub record Witnessed : Type 0 where
   pub station-density : StationChecked roadA (Density (whole 1000))
   pub station-flow-and-speed : StationChecked roadA (FlowAndSpeed (whole 80) four-fifths)
   pub station-speed : StationChecked roadA (Speed fifth)
+  -- how near the next mode is: cells, the end pair, lengths of the numbers and of the changes
+  pub nearest : NearestChecked roadA three 100 0 3 3

@@ -1,4 +1,4 @@
--- The refusal table of document 01 and of document 02 up to E1, whole: a named row for each number. A call's table is a list of these names.
+-- The refusal table of document 01 and of document 02 up to E3, whole: a named row for each number. A call's table is a list of these names.
 --
 --   number   row                        defined in                place reported
 --   1        divisorRow                 road, Judgement           0
@@ -12,10 +12,10 @@
 --   9        cellRow                    here                      the lowest such cell, from 1
 --   10       upRow                      here                      the first such t, from 0
 --   11       downRow                    here                      the first such t, from 0
---   12       wordRow                    modes, Judging            n+1; else the lowest face, of a pair the second
---   13       modeRow                    modes, Candidate          0
---   14       estimatesRow               modes, Candidate          1, 2 or 3, lowest first
---   15       countRow                   modes, Count              0
+--   12       wordRow                    words, Judging            n+1; else the lowest face, of a pair the second
+--   13       modeRow                    candidate, Candidate      0
+--   14       estimatesRow               candidate, Candidate      1, 2 or 3, lowest first
+--   15       countRow                   counting, Count           0
 --   16       givenRow                   site, Station             0
 --   17       fastRow                    site, Station             0
 --   18       resultRow                  site, Station             0

@@ -1,4 +1,5 @@
 // The actions of a text, in a fixed order.
+use super::rankings;
 use super::stations;
 use arguments::options::Options;
 use printing::page;
@@ -26,7 +27,8 @@ fn done(page: &mut Page, o: Options, text: &[u8], action: u8) -> u8 {
         keys::CANDIDATE => candidates::act(page, o.lines, text),
         keys::COUNT => counts::act(page, o.lines, text),
         keys::READLAST => states::act_on_last(page, o.lines, text),
-        _ => stations::act(page, o.lines, text),
+        keys::STATION => stations::act(page, o.lines, text),
+        _ => rankings::act(page, o.lines, text),
     }
 }
 

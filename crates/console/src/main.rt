@@ -1,5 +1,6 @@
 // The command line: reads a scenario, judges it, and then does what its keys ask. What it did is its status (status.rt).
 mod actions;
+mod rankings;
 mod stations;
 
 use arguments::options;

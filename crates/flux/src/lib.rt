@@ -7,6 +7,8 @@ pub use face::L;
 pub use face::W;
 pub use face::letter;
 pub use face::numerator;
+pub use face::receiving;
+pub use face::sending;
 pub use face::units;
 pub use pace::Factor;
 pub use pace::Pace;

@@ -10,7 +10,7 @@ use request::keys;
 use scenario::Verdict;
 
 // What was expected, in the line of each verdict; behind them what goes with one, and what is said of the actions.
-const FORMS: [u8; 820] = *b"
+const FORMS: [u8; 829] = *b"
 a line of at most 4096 bytes
 a keyword (--help has them)
 whole decimal numbers
@@ -41,7 +41,7 @@ candidate takes estimates or bits, not both
 candidate needs estimates or bits
 station takes density, or flow and speed, or speed alone
 station needs density, or flow and speed, or speed
-expected an action: forecast, settle, read, readlast, fit, rows, candidate, count or station
+expected an action: forecast, settle, read, readlast, fit, rows, candidate, count, station or nearest
 --picture needs forecast
 ";
 

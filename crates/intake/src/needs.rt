@@ -43,6 +43,7 @@ const NEEDS: [[u8; MOST]; ACTIONS] = [
     [keys::ROAD, keys::MODE, NONE, NONE, NONE, NONE],
     [NONE, NONE, NONE, NONE, NONE, NONE],
     [keys::ROAD, NONE, NONE, NONE, NONE, NONE],
+    [keys::ROAD, keys::CELLS, keys::PAIR, NONE, NONE, NONE],
 ];
 
 // Whether the horizon is given as 0: only a forecast of no step goes without ends.

@@ -91,6 +91,15 @@ pub fn codes(page: &mut Page, lines: bool, are_letters: bool, xs: &[u8]) {
     after(page, lines);
 }
 
+// The changes of the cells at their places of a ranking, on a line.
+pub fn changes(page: &mut Page, xs: &[i32]) {
+    let mut i = 0;
+    while i < xs.len() {
+        signed_entry(page, true, i, say::widened(xs[i]));
+        i += 1;
+    }
+}
+
 // The numerators of the cells, from cell 1.
 pub fn numerators(page: &mut Page, lines: bool, xs: &[i64]) {
     let mut i = 0;

@@ -121,6 +121,11 @@ pub fn signed(page: &mut Page, n: i64) {
     number(page, size(n));
 }
 
+// A signed number of 32 bits as one that can be printed.
+pub fn widened(n: i32) -> i64 {
+    n as i64
+}
+
 // A signed number in a column of a width.
 pub fn signed_column(page: &mut Page, n: i64, width: usize) {
     let mut digits = [0u8; 20];

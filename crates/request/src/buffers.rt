@@ -61,6 +61,13 @@ pub fn rows() -> [i64; CELLS]
     [0i64; CELLS]
 }
 
+// The changes of the cells.
+pub fn changes() -> [i32; CELLS]
+    ensures { λ r. ⌜ cellsCeiling + 1 ≡ length r ⌝ }
+{
+    [0i32; CELLS]
+}
+
 // The shades of all cells at all steps: those of a cell side by side, and room for the longest horizon for each.
 pub fn shades() -> [u8; SHADES]
     ensures { λ r. ⌜ cellsCeiling * (horizonCeiling + 1) ≡ length r ⌝ }

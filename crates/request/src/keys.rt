@@ -48,11 +48,13 @@ pub const STATION: u8 = 21;
 
 pub const READLAST: u8 = 22;
 
+pub const NEAREST: u8 = 23;
+
 // What stands where no key does.
 pub const NONE: u8 = 255;
 
 // The actions, in the order in which they are done.
-pub const ACTIONS: usize = 9;
+pub const ACTIONS: usize = 10;
 
 const ORDER: [u8; ACTIONS] = [
     FORECAST,
@@ -64,6 +66,7 @@ const ORDER: [u8; ACTIONS] = [
     CANDIDATE,
     COUNT,
     STATION,
+    NEAREST,
 ];
 
 // The key of the i-th action, from 0.

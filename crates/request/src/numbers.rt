@@ -160,6 +160,14 @@ pub fn within_rows(n: usize, xs: &[i64]) -> usize
     if n <= xs.len() { n } else { xs.len() }
 }
 
+// The same, of changes.
+pub fn within_changes(n: usize, xs: &[i32]) -> usize
+    ensures { λ r. ⌜ r ≤ length (now (xs .entry)) ⌝ }
+    ensures { λ r. ⌜ r ≡ length (take r (now (xs .entry))) ⌝ }
+{
+    if n <= xs.len() { n } else { xs.len() }
+}
+
 // One more than n, for the letters of n cells.
 pub fn faces(n: usize, xs: &[u8]) -> usize
     ensures { λ r. ⌜ Counts r (now (xs .entry)) ⌝ }

@@ -1,5 +1,6 @@
-// The worked cases of Level 3, run: station readings. One line a case, held to stdout.
+// The worked cases of Level 3, run: station readings, and how near the next mode is. One line a case, held to stdout.
 mod forms;
+mod rankings;
 mod stations;
 
 use printing::page;
@@ -9,5 +10,6 @@ fn main() {
     stations::cases(&mut page);
     stations::bad_numbers(&mut page);
     stations::other_roads(&mut page);
+    rankings::cases(&mut page);
     page::sent(&mut page);
 }

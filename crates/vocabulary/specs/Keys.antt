@@ -50,6 +50,7 @@ table =
     ∷ row "speed     " false 2 number
     ∷ row "station   " false 0 number
     ∷ row "readlast  " false 0 number
+    ∷ row "nearest   " false 0 number
     ∷ []
 
 -- what is no key: no name, and no values
@@ -62,7 +63,7 @@ keyRow code = getD table code none
 
 -- how many keywords there are: the table's rows (`rows-counted`)
 abbrev pub keyCount : ℕ
-keyCount = 23
+keyCount = 24
 
 -- whether a word, padded with blanks, is the name
 unfoldable pub isName : List ℕ → List ℕ → Bool

@@ -42,8 +42,13 @@ pub const QUARTERS: u8 = 14;
 // A road with an odd D whose half, over D in parts of 2^32, has to be worked out: 2^31 is too much.
 pub const D_2177: u8 = 15;
 
+// Roads whose waves are faster than free traffic, with few units in a cell.
+pub const J_9: u8 = 16;
+
+pub const J_5: u8 = 17;
+
 // The road of five largest numbers, and of any other name.
-pub const LARGEST: u8 = 16;
+pub const LARGEST: u8 = 18;
 
 // A road from its five numbers: D, p, q, J, C.
 fn of(divisor: u32, free: u32, wave: u32, jam: u32, critical: u32) -> Road {
@@ -77,6 +82,8 @@ pub fn road(name: u8) -> Road {
         ONE_HALF => of(2, 1, 1, 2, 1),
         QUARTERS => of(4, 1, 1, 4, 2),
         D_2177 => of(2177, 13, 2177, 998_640, 992_712),
+        J_9 => of(2, 1, 2, 9, 6),
+        J_5 => of(5, 2, 3, 5, 3),
         _ => of(MOST, MOST, MOST, MOST, MOST),
     }
 }

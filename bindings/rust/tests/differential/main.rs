@@ -12,7 +12,7 @@ mod reference;
 
 use exact::Whole;
 use random::Random;
-use reference::{Refused, Station};
+use reference::{Ranking, Refused, Station};
 use std::collections::BTreeMap;
 use std::env;
 use std::thread;
@@ -261,13 +261,17 @@ fn long_settling_runs() {
 
 // Level 2.
 
-/// A state for the calls of Level 2, with its faults: road, cells and ends.
-fn state(g: &mut Random) -> ([u32; 5], Vec<u32>, u32, u32) {
-    let mut road = random::good_road(g);
-    let n = random::size(g);
-    let mut cells = random::densities(g, &road, n);
-    let (mut up, mut down) = (random::density(g, &road), random::density(g, &road));
-    let good = road;
+/// Road, cells and ends.
+type State = ([u32; 5], Vec<u32>, u32, u32);
+
+fn good_state(g: &mut Random, road: [u32; 5], n: usize) -> State {
+    let cells = random::densities(g, &road, n);
+    (road, cells, random::density(g, &road), random::density(g, &road))
+}
+
+/// The same with faults put into it, mostly none.
+fn with_faults(g: &mut Random, (good, mut cells, mut up, mut down): State) -> State {
+    let mut road = good;
     for _ in 0..faults(g) {
         match g.below(6) {
             0 => random::damage_road(g, &mut road),
@@ -281,6 +285,14 @@ fn state(g: &mut Random) -> ([u32; 5], Vec<u32>, u32, u32) {
         }
     }
     (road, cells, up, down)
+}
+
+/// A state for the calls of Level 2, with its faults.
+fn state(g: &mut Random) -> State {
+    let road = random::good_road(g);
+    let n = random::size(g);
+    let good = good_state(g, road, n);
+    with_faults(g, good)
 }
 
 #[test]
@@ -552,6 +564,116 @@ fn stations() {
     cases("station, speed", 100_000, &[1, 2, 3, 4, 16, 17], &words[3..], |g| one_station(g, random::station_speed));
 }
 
+/// How near the next mode is to each cell, the same as C makes it, by the safe function and by the reference.
+fn nearest(
+    road: [u32; 5],
+    cells: &[u32],
+    up: u32,
+    down: u32,
+    numbers: usize,
+    changes: usize,
+) -> Result<Ranking, Refused> {
+    let expected = reference::nearest(road, cells, up, down, numbers, changes);
+    let input = || format!("road {road:?}, cells {cells:?}, up {up}, down {down}, outputs {numbers}, {changes}");
+    assert_eq!(raw::nearest(road, cells, up, down, numbers, changes), expected, "{}", input());
+
+    let before = (vec![0x5a5a_5a5a; numbers], vec![0x5a5a_5a5a; changes]);
+    let mut outputs = before.clone();
+    let by_rust = welgadou::nearest(&road_of(road), cells, up, down, &mut outputs.0, &mut outputs.1);
+    assert_eq!(by_rust.map_err(pair_of), expected.clone().map(|_| ()), "{}", input());
+    assert_eq!(outputs, expected.clone().unwrap_or(before), "{}", input());
+    expected
+}
+
+/// The same of an accepted state, and by the reference that tries every change.
+fn nearest_by_trying(road: [u32; 5], cells: &[u32], up: u32, down: u32) -> Ranking {
+    let ranking = nearest(road, cells, up, down, cells.len(), cells.len()).expect("accepted");
+    let tried = reference::nearest_by_trying(road, cells, up, down);
+    assert_eq!(ranking, tried, "road {road:?}, cells {cells:?}, up {up}, down {down}");
+    ranking
+}
+
+/// A state without faults, every other time with cells moved to where a letter changes.
+fn state_at_borders(g: &mut Random, road: [u32; 5], n: usize) -> State {
+    let (_, mut cells, up, down) = good_state(g, road, n);
+    if g.one_in(2) {
+        random::to_borders(g, &road, &mut cells, up, down);
+    }
+    (road, cells, up, down)
+}
+
+const WAYS: [&str; 3] = [" up", " down", " down though up would do"];
+
+/// Which way the first change of a ranking goes.
+fn first_way(road: [u32; 5], cells: &[u32], up: u32, down: u32, (numbers, changes): &Ranking) -> &'static str {
+    let (r, x) = (reference::Road::new(road), reference::wide(cells));
+    let (i, change) = (numbers[0] as usize - 1, i128::from(changes[0]));
+    if change > 0 {
+        WAYS[0]
+    } else if !reference::alters(&r, &x, i128::from(up), i128::from(down), i, -change) {
+        WAYS[1]
+    } else {
+        WAYS[2]
+    }
+}
+
+#[test]
+fn nearest_modes() {
+    cases("nearest", 80_000, &[1, 2, 3, 4, 5, 8, 9, 10, 11], &WAYS, |g| {
+        let road = if g.one_in(4) { random::small_road(g) } else { random::good_road(g) };
+        let n = random::size(g);
+        let good = state_at_borders(g, road, n);
+        let (road, cells, up, down) = with_faults(g, good);
+        let (mut numbers, mut changes) = (cells.len(), cells.len());
+        if g.one_in(12) {
+            numbers = random::other_length(g, numbers);
+        }
+        if g.one_in(12) {
+            changes = random::other_length(g, changes);
+        }
+        let answer = nearest(road, &cells, up, down, numbers, changes);
+        kind_of(&answer, |ranking| first_way(road, &cells, up, down, ranking))
+    });
+}
+
+/// Every change tried: on small roads, now and then with many cells, and with few cells on roads of any size.
+#[test]
+fn nearest_modes_by_trying() {
+    let one = |g: &mut Random, road, n| {
+        let (road, cells, up, down) = state_at_borders(g, road, n);
+        let ranking = nearest_by_trying(road, &cells, up, down);
+        (0, first_way(road, &cells, up, down, &ranking))
+    };
+    cases("nearest, small jam", 40_000, &[], &WAYS, |g| {
+        let road = random::small_road(g);
+        let n = if g.one_in(1000) { random::size(g) } else { 1 + g.below(12) };
+        one(g, road, n)
+    });
+    cases("nearest, any jam", 100, &[], &WAYS, |g| {
+        let road = random::good_road(g);
+        let n = 1 + g.below(3);
+        one(g, road, n)
+    });
+}
+
+/// Every change tried of every cell between every two neighbours, for each jam density up to 12 and each critical one.
+/// These two fix how the speeds stand to each other, and no more of the speeds and the divisor enters into a letter.
+#[test]
+fn nearest_modes_of_every_small_state() {
+    let mut tried = 0;
+    for jam in 2..=12u32 {
+        for critical in 1..jam {
+            let road = [jam, jam - critical, critical, jam, critical];
+            for code in 0..(jam + 1).pow(3) {
+                let [up, own, down] = [0, 1, 2].map(|place| code / (jam + 1).pow(place) % (jam + 1));
+                nearest_by_trying(road, &[own], up, down);
+                tried += 1;
+            }
+        }
+    }
+    println!("nearest: {tried} small states of one cell, all that there are");
+}
+
 // Demand 3 and what follows.
 
 #[test]
@@ -742,6 +864,44 @@ fn fixed_stations() {
         for reading in [Density(bad), FlowAndSpeed(bad, 0.8), FlowAndSpeed(80.0, bad), Speed(bad)] {
             assert_eq!(station(ROAD_A, reading), Err((16, 0)), "{reading:?}");
         }
+    }
+}
+
+/// How near the next mode is: road, upstream end, cells, downstream end, and the ranking. The greatest change there can
+/// be is the last.
+#[test]
+fn fixed_nearest() {
+    let accepted = [
+        (ROAD_A, 100, vec![300, 150, 700], 0, vec![2, 1, 3], vec![51, -100, -300]),
+        (ROAD_A, 100, vec![400], 204, vec![1], vec![-201]),
+        (ROAD_A, 0, vec![200, 201], 0, vec![1, 2], vec![-1, -1]),
+        ([2, 1, 2, 9, 6], 1, vec![6, 9, 9], 0, vec![1, 2, 3], vec![3, -3, -3]),
+        (ROAD_A, 100, vec![200, 201, 1000, 0, 400], 204, vec![1, 2, 4, 5, 3], vec![-1, -1, 151, -201, -800]),
+        ([5, 2, 3, 5, 3], 1, vec![3], 5, vec![1], vec![2]),
+        ([1, 1, 1, 2, 1], 0, vec![0], 0, vec![1], vec![2]),
+        ([1, 1, 1, 1_000_000, 500_000], 0, vec![1_000_000], 1_000_000, vec![1], vec![-1_000_000]),
+    ];
+    for (road, up, cells, down, numbers, changes) in accepted {
+        let ranking = nearest_by_trying(road, &cells, up, down);
+        assert_eq!(ranking, (numbers, changes), "road {road:?}, cells {cells:?}, up {up}, down {down}");
+    }
+    // An output's length is judged before the cells, and the cells before the ends.
+    let refused = [
+        (vec![], 0, 0, (0, 0), (5, 0)),
+        (vec![0; 257], 0, 0, (257, 257), (5, 0)),
+        (vec![300, 150], 100, 0, (1, 2), (8, 0)),
+        (vec![300, 150], 100, 0, (3, 2), (8, 0)),
+        (vec![300, 150], 100, 0, (2, 1), (8, 0)),
+        (vec![300, 150], 100, 0, (2, 3), (8, 0)),
+        (vec![300, 1001], 100, 0, (0, 2), (8, 0)),
+        (vec![300, 1001], 100, 0, (2, 0), (8, 0)),
+        (vec![300, 1001, 1001], 1001, 1001, (3, 3), (9, 2)),
+        (vec![300, 1000], 1001, 1001, (2, 2), (10, 0)),
+        (vec![300, 1000], 1000, 1001, (2, 2), (11, 0)),
+    ];
+    for (cells, up, down, (numbers, changes), refusal) in refused {
+        let answer = nearest(ROAD_A, &cells, up, down, numbers, changes);
+        assert_eq!(answer, Err(refusal), "cells {cells:?}, up {up}, down {down}, outputs {numbers}, {changes}");
     }
 }
 

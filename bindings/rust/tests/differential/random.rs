@@ -58,8 +58,21 @@ pub const CORNERS: [[u32; 5]; 9] = [
     [1, 1, 1, 1_000_000, 500_000],
 ];
 
-/// An accepted road. The balance p C = q (J - C) says that C and J - C are q and p over their common divisor, times
-/// some k: so every accepted road is made.
+/// Any road that is accepted, of these speeds and with a jam density up to `ceiling`: the balance p C = q (J - C) says
+/// that C and J - C are q and p over their common divisor, times some k.
+fn balanced(g: &mut Random, d: u32, p: u32, q: u32, ceiling: u32) -> [u32; 5] {
+    let shared = common_divisor(p, q);
+    let (c, rest) = (q / shared, p / shared);
+    let most = ceiling / (c + rest);
+    let k = match g.below(4) {
+        0 => g.from(1, most.min(5)),
+        1 => most,
+        _ => g.from(1, most),
+    };
+    [d, p, q, k * (c + rest), k * c]
+}
+
+/// Any road that is accepted, often one at a corner.
 pub fn good_road(g: &mut Random) -> [u32; 5] {
     if g.one_in(5) {
         return g.of(&CORNERS);
@@ -75,15 +88,14 @@ pub fn good_road(g: &mut Random) -> [u32; 5] {
         _ => g.from(1, d),
     };
     let (p, q) = (speed(g), speed(g));
-    let shared = common_divisor(p, q);
-    let (c, rest) = (q / shared, p / shared);
-    let most = 1_000_000 / (c + rest);
-    let k = match g.below(4) {
-        0 => g.from(1, most.min(5)),
-        1 => most,
-        _ => g.from(1, most),
-    };
-    [d, p, q, k * (c + rest), k * c]
+    balanced(g, d, p, q, 1_000_000)
+}
+
+/// An accepted road with so small a jam density that every change of a cell can be tried.
+pub fn small_road(g: &mut Random) -> [u32; 5] {
+    let (p, q) = (g.from(1, 9), g.from(1, 9));
+    let d = g.from(p.max(q), 12);
+    balanced(g, d, p, q, 40)
 }
 
 /// A density that moves, at the given speed over the divisor, some units and about a half.
@@ -160,6 +172,22 @@ pub fn densities(g: &mut Random, road: &[u32; 5], n: usize) -> Vec<u32> {
                 .collect()
         }
         _ => (0..n).map(|_| density(g, road)).collect(),
+    }
+}
+
+/// Moves every second cell to where a letter changes while its neighbours stay: about a border of one of its faces, or
+/// half way between both, where as much down as up may do.
+pub fn to_borders(g: &mut Random, road: &[u32; 5], cells: &mut [u32], up: u32, down: u32) {
+    let r = reference::Road::new(*road);
+    for i in (g.below(2)..cells.len()).step_by(2) {
+        let left = if i == 0 { up } else { cells[i - 1] };
+        let right = if i + 1 == cells.len() { down } else { cells[i + 1] };
+        let borders = reference::borders(&r, i128::from(left), i128::from(right));
+        let density = match g.below(2) {
+            0 => borders.iter().sum::<i128>() / borders.len() as i128,
+            _ => g.of(&borders) + g.of(&[-2, -1, 0, 1]),
+        };
+        cells[i] = density.clamp(0, r.j) as u32;
     }
 }
 

@@ -47,6 +47,11 @@ extern "C" {
         divisor: u32, free: u32, wave: u32, jam: u32, critical: u32, speed: f64, estimate: *mut f64,
         place: *mut u32,
     ) -> u32;
+    fn welgadou_nearest(
+        divisor: u32, free: u32, wave: u32, jam: u32, critical: u32, cells: *const u32, cells_len: usize,
+        upstream: u32, downstream: u32, numbers: *mut u32, numbers_len: usize, changes: *mut i32, changes_len: usize,
+        place: *mut u32,
+    ) -> u32;
 }
 
 /// A number that stands where a call may write, and that no call writes there.
@@ -246,4 +251,26 @@ pub fn station_speed([d, p, q, j, c]: [u32; 5], speed: f64) -> Result<f64, Refus
     // SAFETY: both pointers are those of local values.
     let number = unsafe { welgadou_station_speed(d, p, q, j, c, speed, &mut estimate, &mut place) };
     answer(number, place, estimate.to_bits() == PATTERN, || estimate)
+}
+
+pub fn nearest(
+    [d, p, q, j, c]: [u32; 5],
+    cells: &[u32],
+    up: u32,
+    down: u32,
+    numbers: usize,
+    changes: usize,
+) -> Result<(Vec<u32>, Vec<i32>), Refused> {
+    let (mut numbers_buffer, mut changes_buffer) = (Buffer::new(numbers, WORD), Buffer::new(changes, WORD as i32));
+    let mut place = WORD;
+    // SAFETY: every pointer is that of a list beside its length, or of one local value.
+    #[rustfmt::skip]
+    let number = unsafe {
+        welgadou_nearest(
+            d, p, q, j, c, lent(cells), cells.len(), up, down, numbers_buffer.lent(), numbers, changes_buffer.lent(),
+            changes, &mut place,
+        )
+    };
+    let untouched = numbers_buffer.untouched() && changes_buffer.untouched();
+    answer(number, place, untouched, || (numbers_buffer.contents().to_vec(), changes_buffer.contents().to_vec()))
 }

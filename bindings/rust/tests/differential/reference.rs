@@ -176,7 +176,7 @@ pub fn step(r: &Road, cells: &[i128], up: i128, down: i128) -> (Vec<i128>, Vec<i
     (next, units)
 }
 
-fn wide(cells: &[u32]) -> Vec<i128> {
+pub fn wide(cells: &[u32]) -> Vec<i128> {
     cells.iter().map(|&x| i128::from(x)).collect()
 }
 
@@ -431,4 +431,89 @@ pub fn station(r: [u32; 5], reading: Station) -> Result<f64, Refused> {
     let r = &Road::new(r);
     judge(&[row_1(r), row_2(r), row_3(r), row_4(r), row_16(reading), row_17(r, reading), row_18(r, reading)])?;
     Ok(estimate(r, reading))
+}
+
+/// The cells, numbered from 1, and the change of the cell at the same place.
+pub type Ranking = (Vec<u32>, Vec<i32>);
+
+/// The changes of the cells in their order, ranked: by size, then by cell.
+fn ranked(changes: impl Iterator<Item = i128>) -> Ranking {
+    let changes = changes.map(|change| i32::try_from(change).expect("a change"));
+    let mut cells: Vec<(u32, i32)> = (1..).zip(changes).collect();
+    cells.sort_by_key(|&(number, change)| (change.abs(), number));
+    cells.into_iter().unzip()
+}
+
+/// Whether a change of cell i, counted from 0, leaves it from 0 to J and the state with another word.
+pub fn alters(r: &Road, cells: &[i128], up: i128, down: i128, i: usize, change: i128) -> bool {
+    let mut changed = cells.to_vec();
+    changed[i] += change;
+    (0..=r.j).contains(&changed[i]) && word_of(r, &changed, up, down) != word_of(r, cells, up, down)
+}
+
+/// The ranking of an accepted state in the request's own words: for each cell, every size from 1 on, down before up.
+pub fn nearest_by_trying(r: [u32; 5], cells: &[u32], up: u32, down: u32) -> Ranking {
+    let (r, cells, up, down) = (&Road::new(r), &wide(cells), i128::from(up), i128::from(down));
+    let smallest = |i: usize| {
+        let mut tried = (1..=r.j).flat_map(|size| [-size, size]);
+        tried.find(|&change| alters(r, cells, up, down, i, change)).expect("every cell has such a change")
+    };
+    ranked((0..cells.len()).map(smallest))
+}
+
+/// The first density with another letter than density 0; none where all have the same. Found by halving: the letter of
+/// a face changes at most once while the density on one side of it rises. (Who tries every change need not know that.)
+fn border(r: &Road, letter_with: impl Fn(i128) -> u8) -> Option<i128> {
+    let as_at_0 = |density: i128| letter_with(density) == letter_with(0);
+    let (mut below, mut border) = (0, r.j);
+    while border - below > 1 {
+        let middle = (below + border) / 2;
+        if as_at_0(middle) {
+            below = middle;
+        } else {
+            border = middle;
+        }
+    }
+    (!as_at_0(border)).then_some(border)
+}
+
+/// Where the letters of a cell's two faces change, between the densities left and right of it: one border or two.
+pub fn borders(r: &Road, left: i128, right: i128) -> Vec<i128> {
+    let before = border(r, |own| letter(r, left, own));
+    let after = border(r, |own| letter(r, own, right));
+    before.into_iter().chain(after).collect()
+}
+
+/// The smallest change of a cell by its two letters alone, those of a road of one cell between its neighbours: it leads
+/// to a density right beside a border.
+fn change_to_border(r: &Road, left: i128, own: i128, right: i128) -> i128 {
+    let letters = |density: i128| word_of(r, &[density], left, right);
+    let beside = borders(r, left, right).into_iter().flat_map(|border| [border - 1, border]);
+    let changes = beside.filter(|&density| letters(density) != letters(own)).map(|density| density - own);
+    changes.min_by_key(|change| (change.abs(), change.is_positive())).expect("every cell has such a change")
+}
+
+pub fn nearest(
+    r: [u32; 5],
+    cells: &[u32],
+    up: u32,
+    down: u32,
+    numbers: usize,
+    changes: usize,
+) -> Result<Ranking, Refused> {
+    let r = &Road::new(r);
+    let n = cells.len();
+    judge(&[
+        row_1(r),
+        row_2(r),
+        row_3(r),
+        row_4(r),
+        row_5(cells),
+        row_8(&[(numbers, n), (changes, n)]),
+        row_9(r, cells),
+        row_10(r, &[up]),
+        row_11(r, &[down]),
+    ])?;
+    let x = with_ends(&wide(cells), i128::from(up), i128::from(down));
+    Ok(ranked(x.windows(3).map(|three| change_to_border(r, three[0], three[1], three[2]))))
 }

@@ -8,7 +8,7 @@ abbrev Inv-loop : tie.InvT-loop
 Inv-loop page₀ o text status₀ i₀ page status i = Unit {0}
 
 abbrev μ-loop : tie.MeasureT-loop
-μ-loop page₀ o text status₀ i₀ page status i = 9 - i
+μ-loop page₀ o text status₀ i₀ page status i = 10 - i
 
 pub all-spec : {M : Type 1} → statement M
 all-spec =

@@ -8,7 +8,7 @@ abbrev Inv-loop : tie.InvT-loop
 Inv-loop file text i₀ i = Unit {0}
 
 abbrev μ-loop : tie.MeasureT-loop
-μ-loop file text i₀ i = 9 - i
+μ-loop file text i₀ i = 10 - i
 
 pub asks-spec : {M : Type 1} → statement M
 asks-spec =
