@@ -1,7 +1,7 @@
 -- Every public call there is, of Rattle and of C, by its contract alone: what it did with any input, and what it made of an accepted one.
 -- The public calls are those of `forecast`, `modes`, `rows`, `candidate`, `counting` and `site` that say no "Internal", and the C form of each. The five ceilings
--- and the version for C take no input and hand back a constant; they have nothing to judge. The answers' cases go by a letter: F forecast, S settling, R reading, T fit test, P row prediction,
--- C candidate, N count, E station, M ranking of the next modes.
+-- and the version for C take no input and hand back a constant; they have nothing to judge. The answers' cases go by a letter: F forecast, S settling, R reading,
+-- T fit test, P row prediction, C candidate, N count, E station, M ranking of the next modes.
 use mathlib.Core.Path.{_≡_}
 use mathlib.Core.Bool.{Bool, true, false}
 use mathlib.Core.List.{List, [], _∷_}

@@ -3,7 +3,7 @@ use mathlib.Core.Path.{_≡_, _∙_, refl, sym, ap, ap₂}
 use mathlib.Core.Bool.{Bool, true, false, not}
 use mathlib.Core.List.{List, [], _∷_}
 use Prim.Native.Nat.{ℕ, zero, suc, _+_, _-_, _≤_, _<_}
-use native.Mathlib.Nat.{le-trans, lt-of-not-le, not-suc-le-zero, le-of-suc-le-suc}
+use native.Mathlib.Nat.{le-refl, le-trans, lt-of-not-le, not-suc-le-zero, le-of-suc-le-suc}
 use native.Mathlib.Numerals.{add-one}
 use native.Mathlib.Decide.{decLe}
 use native.Mathlib.Omega.{arith}
@@ -69,14 +69,12 @@ module _ (left right own x : ℕ) where
       by-side (yes h) = up h (ltb-true t x (sym (simp (le-leb own t h)) ∙ e))
       by-side (no n) = let h = lt-of-not-le n in down h (leb-true x t (sym (simp (lt-leb own t h)) ∙ e))
 
-  -- what holds on each of the four ways across holds of every density apart
-  crossed : {P : Type 0} → (own ≤ left → left < x → P) → (left < own → x ≤ left → P) → (own ≤ right → right < x → P) → (right < own → x ≤ right → P)
-      → apart ≡ true → P
-  crossed {P} a b c d e = by-left (parted left own x) refl
+  crossed : {P : Type 0} → (parted left own x ≡ true → P) → (parted right own x ≡ true → P) → apart ≡ true → P
+  crossed {P} by-left by-right e = by-test (parted left own x) refl
     where
-      by-left : (q : Bool) → parted left own x ≡ q → P
-      by-left true l = parted-ways left a b l
-      by-left false l = parted-ways right c d (sym (ap (λ (q : Bool). or q (parted right own x)) l) ∙ e)
+      by-test : (q : Bool) → parted left own x ≡ q → P
+      by-test true l = by-left l
+      by-test false l = by-right (sym (ap (λ (q : Bool). or q (parted right own x)) l) ∙ e)
 
   parted-up : (t : ℕ) → own ≤ t → t < x → parted t own x ≡ true
   parted-up t h g = simp (le-leb own t h, lt-ltb t x g)
@@ -124,50 +122,54 @@ module _ (test : ℕ → Bool) (jam own left right : ℕ) (parts : (x : ℕ) →
   abbrev Further : ℕ → ℕ → Type 0
   Further s x = (own ≤ x → s ≤ x - own) × (x < own → s < own - x)
 
-  up-right : own ≤ right → Smallest test jam own (pos (right + 1 - own))
-  up-right h =
-      smallest-up test jam own (right + 1 - own) (omega arith) (omega arith)
-      (parts (own + (right + 1 - own)) (omega arith) ∙ by-the-right left right own _ (parted-up left right own _ right h (omega arith)))
-      (λ x g t. crossed left right own x {P = Further (right + 1 - own) x}
-      (λ a b. (λ o. omega arith, λ o. omega arith))
-      (λ a b. (λ o. omega arith, λ o. omega arith))
-      (λ a b. (λ o. omega arith, λ o. omega arith))
-      (λ a b. (λ o. omega arith, λ o. omega arith))
-      (sym (parts x g) ∙ t))
+  -- the way up across threshold t is no longer than one up across threshold u, and shorter than one down onto it; the way down onto t is no longer than either
+  abbrev ShortUp : ℕ → ℕ → Type 0
+  ShortUp t u = (own ≤ u → t ≤ u) × (u < own → t + 1 - own < own - u)
 
-  down-left : left < own → Smallest test jam own (negℤ (pos (own - left)))
-  unfolding gap
-  down-left h =
-      smallest-down test jam own (own - left) (omega arith) (omega arith) high
-      (parts (own - (own - left)) (omega arith) ∙ by-the-left left right own _ (parted-down left right own _ left h (omega arith)))
-      (λ x g t. crossed left right own x {P = own - left ≤ (x - own) + (own - x)} (λ a b. omega arith) (λ a b. omega arith) (λ a b. omega arith) (λ a b. omega arith) (sym (parts x g) ∙ t))
+  abbrev ShortDown : ℕ → ℕ → Type 0
+  ShortDown t u = (own ≤ u → u < jam → own - t ≤ u + 1 - own) × (u < own → u ≤ t)
 
-  -- between the thresholds: the way up where it is there and shorter, else the way down
-  up-left : right < own → own ≤ left → left < jam → left + 1 - own < own - right → Smallest test jam own (pos (left + 1 - own))
-  up-left h k room shorter =
-      smallest-up test jam own (left + 1 - own) (omega arith) (omega arith)
-      (parts (own + (left + 1 - own)) (omega arith) ∙ by-the-left left right own _ (parted-up left right own _ left k (omega arith)))
-      (λ x g t. crossed left right own x {P = Further (left + 1 - own) x}
-      (λ a b. (λ o. omega arith, λ o. omega arith))
-      (λ a b. (λ o. omega arith, λ o. omega arith))
-      (λ a b. (λ o. omega arith, λ o. omega arith))
-      (λ a b. (λ o. omega arith, λ o. omega arith))
-      (sym (parts x g) ∙ t))
+  further-up : (t u x : ℕ) → own ≤ t → ShortUp t u → parted u own x ≡ true → Further (t + 1 - own) x
+  further-up t u x h short =
+      parted-ways left right own x {P = Further (t + 1 - own) x} u
+      (λ a b. let no-lower = short .0 a in (λ o. omega arith, λ o. omega arith))
+      (λ a b. let longer = short .1 a in (λ o. omega arith, λ o. omega arith))
 
+  further-down : (t u x : ℕ) → x ≤ jam → t < own → ShortDown t u → parted u own x ≡ true → own - t ≤ (x - own) + (own - x)
+  further-down t u x g h short =
+      parted-ways left right own x {P = own - t ≤ (x - own) + (own - x)} u
+      (λ a b. let no-shorter = short .0 a (omega arith) in omega arith)
+      (λ a b. let no-higher = short .1 a in omega arith)
+
+  -- across one of the two thresholds
+  module _ (t : ℕ) (one : (x : ℕ) → parted t own x ≡ true → apart left right own x ≡ true) where
+    up-across : own ≤ t → t < jam → ShortUp t left → ShortUp t right → Smallest test jam own (pos (t + 1 - own))
+    up-across h room l r =
+        smallest-up test jam own (t + 1 - own) (omega arith) (omega arith)
+        (parts (own + (t + 1 - own)) (omega arith) ∙ one _ (parted-up left right own _ t h (omega arith)))
+        (λ x g e. crossed left right own x (further-up t left x h l) (further-up t right x h r) (sym (parts x g) ∙ e))
+
+    down-across : t < own → ShortDown t left → ShortDown t right → Smallest test jam own (negℤ (pos (own - t)))
+    unfolding gap
+    down-across h l r =
+        smallest-down test jam own (own - t) (omega arith) (omega arith) high
+        (parts (own - (own - t)) (omega arith) ∙ one _ (parted-down left right own _ t h (omega arith)))
+        (λ x g e. crossed left right own x (further-down t left x g h l) (further-down t right x g h r) (sym (parts x g) ∙ e))
+
+  -- above the right threshold and up to the left one, the way down where the way up is not there or no shorter
   down-right : right < own → own ≤ left → (left < jam → own - right ≤ left + 1 - own) → Smallest test jam own (negℤ (pos (own - right)))
-  unfolding gap
   down-right h k longer =
-      smallest-down test jam own (own - right) (omega arith) (omega arith) high
-      (parts (own - (own - right)) (omega arith) ∙ by-the-right left right own _ (parted-down left right own _ right h (omega arith)))
-      (λ x g t. crossed left right own x {P = own - right ≤ (x - own) + (own - x)}
-      (λ a b. let l = longer (omega arith) in omega arith) (λ a b. omega arith) (λ a b. omega arith) (λ a b. omega arith) (sym (parts x g) ∙ t))
+      down-across right (by-the-right left right own) h (λ a room. longer room, λ a. omega arith) (λ a room. omega arith, λ a. le-refl right)
 
   pub crossing-smallest : Smallest test jam own (crossing jam own left right)
   crossing-smallest = by-right (decLe own right)
     where
       by-length : right < own → own ≤ left → left < jam → Dec (own - right ≤ left + 1 - own) → Smallest test jam own (crossing jam own left right)
       by-length h k room (yes longer) = rw (way-down-right jam own left right h k room longer) (down-right h k (λ _. longer))
-      by-length h k room (no n) = let shorter = lt-of-not-le n in rw (way-up-left jam own left right h k room shorter) (up-left h k room shorter)
+      by-length h k room (no n) =
+          let shorter = lt-of-not-le n in
+          rw (way-up-left jam own left right h k room shorter)
+          (up-across left (by-the-left left right own) k room (λ a. le-refl left, λ a. omega arith) (λ a. omega arith, λ a. shorter))
 
       by-room : right < own → own ≤ left → Dec (jam ≤ left) → Smallest test jam own (crossing jam own left right)
       by-room h k (yes full) = rw (way-down-only jam own left right h k full) (down-right h k (λ room. absurd (omega arith)))
@@ -175,10 +177,15 @@ module _ (test : ℕ → Bool) (jam own left right : ℕ) (parts : (x : ℕ) →
 
       by-left : right < own → Dec (own ≤ left) → Smallest test jam own (crossing jam own left right)
       by-left h (yes k) = by-room h k (decLe jam left)
-      by-left h (no n) = let k = lt-of-not-le n in rw (way-down-left jam own left right h k) (down-left k)
+      by-left h (no n) =
+          let k = lt-of-not-le n in
+          rw (way-down-left jam own left right h k)
+          (down-across left (by-the-left left right own) k (λ a room. omega arith, λ a. le-refl left) (λ a room. omega arith, λ a. order))
 
       by-right : Dec (own ≤ right) → Smallest test jam own (crossing jam own left right)
-      by-right (yes h) = rw (way-up-right jam own left right h) (up-right h)
+      by-right (yes h) =
+          rw (way-up-right jam own left right h)
+          (up-across right (by-the-right left right own) h low (λ a. order, λ a. omega arith) (λ a. le-refl right, λ a. omega arith))
       by-right (no n) = by-left (lt-of-not-le n) (decLe own left)
 
 -- a cell of a checked state
