@@ -7,8 +7,7 @@
 #include "kernels.h"
 #include "welgadou.h"
 
-/* The proved calls of an earlier state of this project, where `run` was given one: one kernel more in each contest,
- * but not yet in the ranking's. */
+/* The proved calls of an earlier state of this project, where `run` was given one: one kernel more in each contest. */
 #ifdef BEFORE
 #define EARLIER(kernel) kernel,
 enum { ONE_MORE = 1 };
@@ -67,10 +66,9 @@ static void run_rows(int k, size_t n, uint32_t steps)
     kernels[k](&road, cells, n, up[0], down[0], word, results[k].rows);
 }
 
-/* No earlier kernel yet: the state before the first with this call has none to link. */
 static void rank(int k, const struct road *r, const uint32_t *x, size_t n, uint32_t before, uint32_t after)
 {
-    static ranker *const kernels[] = { plain_nearest, tuned_nearest, proved_nearest };
+    static ranker *const kernels[] = { plain_nearest, tuned_nearest, EARLIER(before_nearest) proved_nearest };
     kernels[k](r, x, n, before, after, results[k].numbers, results[k].changes);
 }
 
@@ -94,21 +92,26 @@ static void run_rising(int k, size_t n, uint32_t steps)
     rank(k, &road, rising, n, 0, 0);
 }
 
+/* The kernels of the calls that have several contests. */
+#define FORECASTERS { "plain C, division", "tuned C, one pass", "tuned C, two passes", EARLIER("before") "welgadou_forecast" }, \
+    4 + ONE_MORE
+#define RANKERS { "plain C", "tuned C, counting", EARLIER("before") "welgadou_nearest" }, 3 + ONE_MORE
+
 /* A call with its kernels, plain C first and the proved one last, and how often it is made for one time. */
 static const struct contest {
     const char *call, *names[KERNELS];
     int kernels, calls, steps;
     void (*run)(int k, size_t n, uint32_t steps);
 } contests[] = {
-    { "forecast", { "plain C, division", "tuned C, one pass", "tuned C, two passes", EARLIER("before") "welgadou_forecast" },
-      4 + ONE_MORE, 1, STEPS, run_forecast },
+    { "forecast", FORECASTERS, 1, STEPS, run_forecast },
+    { "forecast, one step", FORECASTERS, 1000, 1, run_forecast },
     { "settle", { "plain C, division", "tuned C, two passes", EARLIER("before") "welgadou_settle" }, 3 + ONE_MORE, 1, STEPS,
       run_settle },
     { "read", { "plain C", "tuned C, two passes", EARLIER("before") "welgadou_read" }, 3 + ONE_MORE, 1000, 0, run_read },
     { "rows", { "plain C", "tuned C, two passes", EARLIER("before") "welgadou_rows" }, 3 + ONE_MORE, 1000, 0, run_rows },
-    { "nearest", { "plain C", "tuned C, counting", "welgadou_nearest" }, 3, 100, 0, run_nearest },
-    { "nearest, jam 1000", { "plain C", "tuned C, counting", "welgadou_nearest" }, 3, 100, 0, run_small },
-    { "nearest, wrong way round", { "plain C", "tuned C, counting", "welgadou_nearest" }, 3, 100, 0, run_rising },
+    { "nearest", RANKERS, 100, 0, run_nearest },
+    { "nearest, jam 1000", RANKERS, 100, 0, run_small },
+    { "nearest, wrong way round", RANKERS, 100, 0, run_rising },
 };
 
 static double seconds(void)
@@ -141,7 +144,7 @@ static void measure(const struct contest *c, size_t n, uint32_t steps, double be
         }
 }
 
-/* The ratios at full size, and how the proved call's time grows with cells and with steps. */
+/* The ratios at full size, and how the proved call's time grows with cells and, where there are several, with steps. */
 static void compare(const struct contest *c)
 {
     double best[KERNELS], by_cells[SIZES], by_steps[SIZES], whole;
@@ -149,7 +152,7 @@ static void compare(const struct contest *c)
     measure(c, CELLS, (uint32_t)c->steps, best);
     whole = best[last];
     printf("%s, %d cells", c->call, CELLS);
-    if (c->steps)
+    if (c->steps > 1)
         printf(", %d steps", c->steps);
     if (results[0].steps)
         printf(" (%s after %u)", results[0].settled ? "settled" : "unsettled", results[0].steps);
@@ -159,14 +162,14 @@ static void compare(const struct contest *c)
     for (int i = 0; i < SIZES; i++) {
         measure(c, (size_t)CELLS >> i, (uint32_t)c->steps, best);
         by_cells[i] = best[last];
-        if (c->steps)
+        if (c->steps > 1)
             measure(c, CELLS, (uint32_t)c->steps >> i, best);
         by_steps[i] = best[last];
     }
     printf("  time by cells ");
     for (int i = SIZES - 1; i >= 0; i--)
         printf("  %4d %6.3f", CELLS >> i, by_cells[i] / by_cells[0]);
-    if (c->steps) {
+    if (c->steps > 1) {
         printf("\n  time by steps ");
         for (int i = SIZES - 1; i >= 0; i--)
             printf("  %4d %6.3f", c->steps >> i, by_steps[i] / by_steps[0]);

@@ -21,5 +21,5 @@ forecaster plain_forecast, tuned_one_pass, tuned_two_passes, proved_forecast, be
 settler plain_settle, tuned_settle, proved_settle, before_settle;
 reader plain_read, tuned_read, proved_read, before_read;
 predictor plain_rows, tuned_rows, proved_rows, before_rows;
-ranker plain_nearest, tuned_nearest, proved_nearest;
+ranker plain_nearest, tuned_nearest, proved_nearest, before_nearest;
 #endif

@@ -15,9 +15,10 @@ static void accepted(uint32_t number, uint32_t place)
 void proved_forecast(const struct road *r, const uint32_t *x, size_t n, const uint32_t *ups, const uint32_t *downs,
                             uint32_t horizon, uint32_t *out, uint64_t *entered, uint64_t *left)
 {
+    uint64_t total_entered = 0, total_left = 0;
     uint32_t place;
     uint32_t number = welgadou_forecast(WELGADOU_ROAD(*r), x, n, ups, horizon, downs, horizon, horizon, out, n,
-                                        entered, left, &place);
+                                        entered, left, &total_entered, &total_left, &place);
     accepted(number, place);
 }
 

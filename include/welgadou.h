@@ -17,13 +17,18 @@
  *     those left; and the divisor times the distance from the same forecast made without rounding, summed over the
  *     cells, is at most cells x steps x (divisor - 1).
  *   - The cells that a forecast or a settling run hands back are accepted as the next one's start, on the same road,
- *     whatever its other inputs, as long as they pass their own checks: for ever.
+ *     whatever its other inputs, as long as these pass their own checks and no total would pass the largest: for ever.
+ *     Where forecasts carry their totals on from 0, none is refused with 19 while they make at most 18,446,744,073,709
+ *     steps together.
+ *   - Over any chain of forecasts that begins with both totals 0, each fed with the last accepted one's cells and totals,
+ *     the units at the beginning plus the total entered are the units on the road plus the total left. A refused call in
+ *     the chain alters neither cells nor totals.
  *   - The estimate that a station call hands back is accepted by welgadou_candidate in each of its three places, on the
  *     same road.
  *
  * What the comments below say of a call is a clause of its contract, or follows from one at sight, but for these:
  *
- *   - Proved beside the contracts: that a call returns (of every function, by the prover); "for ever", over calls in a
+ *   - Proved beside the contracts: that a call returns (of every function, by the prover); "for ever" and the totals of a
  *     chain, of which one link follows from the contracts of two calls; the printed table of the modes; which densities
  *     move at which speed (welgadou_station_speed), without rounding; that a foreign word's number may be negative (a
  *     case).
@@ -37,7 +42,7 @@
  * WHAT THE CALLER OWES
  *
  *   - A pointer stands for as many readable (`const`) or writable values as the length beside it says, a pointer
- *     without a length for one value, `counts` for seven.
+ *     without a length for one value, `counts` for seven. `total_entered` and `total_left` are read and written.
  *   - Memory that a call writes overlaps nothing else that the same call is given.
  *   - All of it stays valid, and no one else changes it, until the call has returned.
  *   - Floating point is in the state that a C program starts in: rounding to nearest, subnormal numbers kept, no traps.
@@ -57,8 +62,9 @@
  * EXPORTED NAMES
  *
  * A call whose parameters change gets the next number in its exported name, and a macro here maps the plain name to it:
- * welgadou_candidate is exported as welgadou_candidate_2. So what was compiled with an older header does not link, where
- * it would else pass wrong arguments in silence. Write the plain names; only dlsym and a debugger want the exported ones.
+ * welgadou_forecast is exported as welgadou_forecast_2, welgadou_candidate as welgadou_candidate_2. So what was compiled
+ * with an older header does not link, where it would else pass wrong arguments in silence. Write the plain names; only
+ * dlsym and a debugger want the exported ones.
  *
  * THE ROAD AND ITS UNITS
  *
@@ -118,6 +124,8 @@
  *    17      a station's lone speed x divisor, rounded, is not below   0
  *            free: no single density
  *    18      a station's estimate is below 0 or above jam              0
+ *    19      total_entered or total_left would pass                    0
+ *            18,446,744,073,709,551,615
  *    (none)  0: accepted                                               0
  *
  * A call with one pair of ends reports 10 and 11 at place 0. The number 12 takes the lowest face with either fault.
@@ -135,14 +143,14 @@
 extern "C" {
 #endif
 
-/* The version of this header: ten thousand a major, a hundred a minor version. 0.5.0 is 500. */
-#define WELGADOU_VERSION 500
+/* The version of this header: ten thousand a major, a hundred a minor version. 0.6.0 is 600. */
+#define WELGADOU_VERSION 600
 
 /* Returns: the version of the library that is linked, WELGADOU_VERSION where it is the one of this header. */
 uint32_t welgadou_version(void);
 
 /* The bytes of stack that suffice for any call. */
-#define WELGADOU_STACK 512
+#define WELGADOU_STACK 1792
 
 /* The letter codes of a word. */
 enum { WELGADOU_W = 0, WELGADOU_L = 1, WELGADOU_D = 2 };
@@ -189,7 +197,10 @@ uint32_t welgadou_count_ceiling(void);
  * Level 1: forecast and settling run
  * ------------------------------------------------------------------------------------------------------------------ */
 
-/* Makes `horizon` steps from the given cells, each with its own pair of ends.
+/* Makes `horizon` steps from the given cells, each with its own pair of ends, and keeps the totals since commissioning:
+ * hand over two variables that began with 0, and the last accepted forecast's cells. Then the units at commissioning plus
+ * the total entered are the units on the road plus the total left, whatever calls were refused in between. A settling run
+ * counts nothing: to go on from its cells, begin with totals of 0 again.
  *
  * Returns:  0, or the number of the refusal.
  * In:       divisor, free, wave, jam, critical: the road.
@@ -197,19 +208,23 @@ uint32_t welgadou_count_ceiling(void);
  *           upstream, upstream_len:       the density before cell 1, one for each step, the first step's first.
  *           downstream, downstream_len:   the density after cell n, likewise. Both lengths are `horizon`.
  *           horizon:                      how many steps to make. With 0 the start comes back.
+ * In/Out:   total_entered, total_left:    the totals so far; where 0 is returned the first is increased by `entered`, the
+ *                                         second by `left`.
  * Out:      out, out_len:                 the n densities after the last step; out_len is n.
- *           entered:                      the units that moved over face 0, in all steps together.
- *           left:                         the units that moved over face n, in all steps together.
+ *           entered:                      the units that moved over face 0, in all steps of this call together.
+ *           left:                         the units that moved over face n, in all steps of this call together.
  *           place:                        0, or the place of the refusal.
- * Refusals: 1 to 11.
+ * Refusals: 1 to 11, 19; 19 is judged last.
  */
+#define welgadou_forecast welgadou_forecast_2
 uint32_t welgadou_forecast(uint32_t divisor, uint32_t free, uint32_t wave, uint32_t jam, uint32_t critical,
                            const uint32_t *cells, size_t cells_len,
                            const uint32_t *upstream, size_t upstream_len,
                            const uint32_t *downstream, size_t downstream_len,
                            uint32_t horizon,
                            uint32_t *out, size_t out_len,
-                           uint64_t *entered, uint64_t *left, uint32_t *place);
+                           uint64_t *entered, uint64_t *left,
+                           uint64_t *total_entered, uint64_t *total_left, uint32_t *place);
 
 /* Steps with one pair of ends until a step would be still, or the horizon is used up. A step is still where every face
  * keeps its letter and the cells keep their sum.

@@ -29,7 +29,7 @@ static const welgadou_road roads[] = {
 static welgadou_road road;
 static uint32_t cells[CELLS + 1], upstream[STEPS + 1], downstream[STEPS + 1], out[CELLS + 1], n, horizon, mode;
 static uint32_t settled, steps, counts[7], queued, holds, face, place, number;
-static uint64_t entered, left, words;
+static uint64_t entered, left, total_entered, total_left, words;
 static uint8_t letters[CELLS + 2], modes[CELLS + 1];
 static int64_t rows[CELLS + 1];
 static uint32_t ranked[CELLS + 1];
@@ -37,10 +37,14 @@ static int32_t changes[CELLS + 1];
 static double given[3], result;
 static volatile uint32_t asked;
 
+/* The forecasts that were refused with 19, which is judged after the run: some must be. */
+static unsigned full;
+
 static void forecast(void)
 {
     number = welgadou_forecast(WELGADOU_ROAD(road), cells, n, upstream, horizon, downstream, horizon, horizon, out, n,
-                               &entered, &left, &place);
+                               &entered, &left, &total_entered, &total_left, &place);
+    full += number == 19;
 }
 
 static void settle(void)
@@ -200,6 +204,8 @@ int main(void)
                     given[1] = all_given[(i + h) % 8];
                     given[2] = all_given[(i + l) % 8];
                     fill((uint32_t)(r + l + h + i), roads[r].jam);
+                    total_entered = i == 4 ? UINT64_MAX : 0;
+                    total_left = i == 5 ? UINT64_MAX : 0;
                     if (i == 6)
                         cells[n / 2] = roads[r].jam + 1;
                     if (i == 7)
@@ -213,6 +219,10 @@ int main(void)
                calls[i].accepted, calls[i].refused);
         if (calls[i].deepest > WELGADOU_STACK)
             failed++;
+    }
+    if (full == 0) {
+        printf("no forecast was refused with 19\n");
+        failed++;
     }
     printf("%s: a call takes at most %d bytes of stack\n", failed ? "FAILED" : "ok", WELGADOU_STACK);
     return failed != 0;

@@ -10,10 +10,11 @@
  */
 #include <inttypes.h>
 #include <stdio.h>
+#include <string.h>
 
 #include "welgadou.h"
 
-enum { CELLS = 3, STEPS = 4 };
+enum { CELLS = 3, STEPS = 4, CALLS = 5 };
 
 /* Free traffic moves 4/5 of a cell a step, a jam's edge 1/5 of a cell back; 1000 units fill a cell, and the flow is
  * greatest at 200. The order is divisor, free, wave, jam, critical. */
@@ -42,6 +43,7 @@ static const char *words(uint32_t number)
     case 16: return "a station's number is not a number, below 0 or infinite, or a speed beside a flow is 0";
     case 17: return "a station's lone speed times the divisor, rounded, is not below free: no single density";
     case 18: return "a station's estimate is below 0 or above the jam density";
+    case 19: return "a total since commissioning would pass the largest 64-bit number";
     default: return "unknown";
     }
 }
@@ -61,19 +63,37 @@ static void print_cells(const uint32_t *cells)
         printf(" %5" PRIu32, cells[i]);
 }
 
+static void print_forecast(uint32_t row, const uint32_t *cells, uint64_t entered, uint64_t left)
+{
+    printf("%5" PRIu32, row);
+    print_cells(cells);
+    printf(" %8" PRIu64 " %5" PRIu64 "\n", entered, left);
+}
+
+/* The units on the road. */
+static uint64_t units(const uint32_t *cells)
+{
+    uint64_t sum = 0;
+    int i;
+    for (i = 0; i < CELLS; i++)
+        sum += cells[i];
+    return sum;
+}
+
 int main(void)
 {
     const uint32_t cells[CELLS] = { 300, 150, 700 };
     const uint32_t upstream[STEPS] = { 100, 100, 120, 150 };
     const uint32_t downstream[STEPS] = { 0, 0, 0, 900 };
-    uint32_t out[CELLS], settled, steps, counts[7], queued, holds, face, place, number;
-    uint64_t entered, left, legal;
+    const uint32_t ends[CALLS][2] = { { 100, 0 }, { 100, 0 }, { 1001, 0 }, { 120, 0 }, { 150, 900 } };
+    uint32_t out[CELLS], on_road[CELLS], settled, steps, counts[7], queued, holds, face, place, number;
+    uint64_t entered, left, total_entered, total_left, legal;
     uint8_t letters[CELLS + 1], modes[CELLS];
     int64_t rows[CELLS];
     double numerator, estimate;
     uint32_t numbers[CELLS];
     int32_t changes[CELLS];
-    uint32_t horizon;
+    uint32_t horizon, call;
     int i;
 
     /* The header and the library that is linked are of one version. */
@@ -86,17 +106,36 @@ int main(void)
            welgadou_cells_ceiling(), welgadou_horizon_ceiling(), welgadou_divisor_ceiling(), welgadou_jam_ceiling(),
            welgadou_count_ceiling());
 
-    /* Level 1: the forecast, for each horizon up to the last. */
+    /* Level 1: the forecast, for each horizon up to the last. Each stands alone here: its totals begin with 0. */
     printf("steps  cell 1, 2, 3       entered  left\n");
     for (horizon = 0; horizon <= STEPS; horizon++) {
+        total_entered = total_left = 0;
         number = welgadou_forecast(WELGADOU_ROAD(road), cells, CELLS, upstream, horizon, downstream, horizon, horizon,
-                                   out, CELLS, &entered, &left, &place);
+                                   out, CELLS, &entered, &left, &total_entered, &total_left, &place);
         if (refused("forecast", number, place))
             return 1;
-        printf("%5" PRIu32, horizon);
-        print_cells(out);
-        printf(" %8" PRIu64 " %5" PRIu64 "\n", entered, left);
+        print_forecast(horizon, out, entered, left);
     }
+
+    /* Level 1: the totals since commissioning, over five forecasts of one step, each from the last accepted one's cells.
+     * The third has an end above the jam density: it is refused and changes nothing, and the fourth goes on from the
+     * second. */
+    printf(" call  cell 1, 2, 3       entered  left since commissioning\n");
+    memcpy(on_road, cells, sizeof on_road);
+    total_entered = total_left = 0;
+    for (call = 1; call <= CALLS; call++) {
+        const uint32_t *pair = ends[call - 1];
+        number = welgadou_forecast(WELGADOU_ROAD(road), on_road, CELLS, &pair[0], 1, &pair[1], 1, 1, out, CELLS,
+                                   &entered, &left, &total_entered, &total_left, &place);
+        if (refused("forecast", number, place))
+            continue;
+        memcpy(on_road, out, sizeof on_road);
+        print_forecast(call, on_road, total_entered, total_left);
+    }
+    printf("%" PRIu64 " units + %" PRIu64 " entered = %" PRIu64 " units + %" PRIu64 " left\n",
+           units(cells), total_entered, units(on_road), total_left);
+    if (units(cells) + total_entered != units(on_road) + total_left)
+        return 1;
 
     /* Level 1: how the state settles with ends that stay. */
     number = welgadou_settle(WELGADOU_ROAD(road), cells, CELLS, 100, 0, 1000, out, CELLS, &settled, &steps, &place);

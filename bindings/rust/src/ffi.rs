@@ -8,7 +8,7 @@
 //! The number in a `link_name` rises with each change of a call's parameters, so that a declaration from before such a
 //! change does not link.
 
-use crate::{Refusal, Road};
+use crate::{Moved, Refusal, Road, Totals};
 
 #[rustfmt::skip]
 extern "C" {
@@ -18,10 +18,12 @@ extern "C" {
     fn welgadou_divisor_ceiling() -> u32;
     fn welgadou_jam_ceiling() -> u32;
     fn welgadou_count_ceiling() -> u32;
+    #[link_name = "welgadou_forecast_2"]
     fn welgadou_forecast(
         divisor: u32, free: u32, wave: u32, jam: u32, critical: u32, cells: *const u32, cells_len: usize,
         upstream: *const u32, upstream_len: usize, downstream: *const u32, downstream_len: usize, horizon: u32,
-        out: *mut u32, out_len: usize, entered: *mut u64, left: *mut u64, place: *mut u32,
+        out: *mut u32, out_len: usize, entered: *mut u64, left: *mut u64, total_entered: *mut u64,
+        total_left: *mut u64, place: *mut u32,
     ) -> u32;
     fn welgadou_settle(
         divisor: u32, free: u32, wave: u32, jam: u32, critical: u32, cells: *const u32, cells_len: usize,
@@ -115,8 +117,8 @@ pub(crate) fn forecast(
     downstream: &[u32],
     horizon: u32,
     out: &mut [u32],
-    entered: &mut u64,
-    left: &mut u64,
+    moved: &mut Moved,
+    totals: &mut Totals,
 ) -> Result<(), Refusal> {
     let mut place = 0;
     // SAFETY: each pointer comes from a borrow, with that borrow's length (see the top of this file).
@@ -125,7 +127,8 @@ pub(crate) fn forecast(
         welgadou_forecast(
             r.divisor, r.free, r.wave, r.jam, r.critical, cells.as_ptr(), cells.len(),
             upstream.as_ptr(), upstream.len(), downstream.as_ptr(), downstream.len(), horizon,
-            out.as_mut_ptr(), out.len(), entered, left, &mut place,
+            out.as_mut_ptr(), out.len(), &mut moved.entered, &mut moved.left, &mut totals.entered, &mut totals.left,
+            &mut place,
         )
     };
     judged(number, place)

@@ -2,17 +2,42 @@
 
 use crate::{ffi, Refusal, Road};
 
-/// The units that a forecast moved over its two ends, all steps together.
+/// The units that one forecast moved over its two ends, in all its steps together.
 ///
 /// ```
 /// let road = welgadou::Road { divisor: 5, free: 4, wave: 1, jam: 1000, critical: 200 };
+/// let mut totals = welgadou::Totals { entered: 5000, left: 4000 };
 /// let (start, mut out) = ([101], [0]);
-/// let totals = welgadou::forecast(&road, &start, &[0], &[0], 1, &mut out)?;
-/// assert_eq!(totals, welgadou::Totals { entered: 0, left: 81 });
-/// assert_eq!(u64::from(start[0]) + totals.entered, u64::from(out[0]) + totals.left);
+/// let moved = welgadou::forecast(&road, &start, &[0], &[0], 1, &mut totals, &mut out)?;
+/// assert_eq!(moved, welgadou::Moved { entered: 0, left: 81 });
+/// assert_eq!(u64::from(start[0]) + moved.entered, u64::from(out[0]) + moved.left);
 /// # Ok::<(), welgadou::Refusal>(())
 /// ```
 #[derive(Clone, Copy, Debug, PartialEq, Eq, Hash)]
+pub struct Moved {
+    /// The units over the face before the first cell.
+    pub entered: u64,
+    /// The units over the face after the last cell.
+    pub left: u64,
+}
+
+/// The units that have moved over the two ends of a road since commissioning, when both were 0, the default. Each
+/// [`forecast`] increases them by its own units. `u64::MAX` is the largest total.
+///
+/// ```
+/// use welgadou::Totals;
+///
+/// let road = welgadou::Road { divisor: 5, free: 4, wave: 1, jam: 1000, critical: 200 };
+/// let (mut totals, mut out) = (Totals { entered: 0, left: u64::MAX - 81 }, [0]);
+/// welgadou::forecast(&road, &[101], &[0], &[0], 1, &mut totals, &mut out)?;
+/// assert_eq!((totals, out), (Totals { entered: 0, left: u64::MAX }, [20]));
+///
+/// let refusal = welgadou::forecast(&road, &[101], &[100], &[0], 1, &mut totals, &mut out).unwrap_err();
+/// assert_eq!((refusal.number, refusal.place), (19, 0));
+/// assert_eq!((totals, out), (Totals { entered: 0, left: u64::MAX }, [20]));
+/// # Ok::<(), welgadou::Refusal>(())
+/// ```
+#[derive(Clone, Copy, Debug, Default, PartialEq, Eq, Hash)]
 pub struct Totals {
     /// The units over the face before the first cell.
     pub entered: u64,
@@ -20,19 +45,30 @@ pub struct Totals {
     pub left: u64,
 }
 
-/// Makes `horizon` steps from `cells`, step t with the ends `upstream[t]` and `downstream[t]`, and writes the densities
-/// after the last one into `out`, which is as long as `cells`. Refuses with the numbers 1 to 11.
+/// Makes `horizon` steps from `cells`, step t with the ends `upstream[t]` and `downstream[t]`, writes the densities after
+/// the last one into `out`, which is as long as `cells`, and increases `totals` by the units that it hands back. Refuses
+/// with the numbers 1 to 11 and, judged last, 19; `totals` and `out` are then as they were.
+///
+/// Keep one variable for the totals, `Totals::default()` at commissioning, and hand it to every forecast together with the
+/// last accepted one's cells: the units at commissioning plus those entered are then the units on the road plus those left.
+/// A settling run counts nothing: to go on from its cells, begin with totals of 0 again.
 ///
 /// ```
 /// let road = welgadou::Road { divisor: 5, free: 4, wave: 1, jam: 1000, critical: 200 };
-/// let mut out = [0; 3];
-/// let totals = welgadou::forecast(&road, &[300, 150, 700], &[100, 100], &[0, 0], 2, &mut out)?;
-/// assert_eq!(out, [150, 320, 520]);
+/// let mut totals = welgadou::Totals::default();
+/// let (start, mut first, mut second) = ([300, 150, 700], [0; 3], [0; 3]);
+/// welgadou::forecast(&road, &start, &[100], &[0], 1, &mut totals, &mut first)?;
+/// let moved = welgadou::forecast(&road, &first, &[100], &[0], 1, &mut totals, &mut second)?;
+/// assert_eq!((first, second), ([220, 250, 600], [150, 320, 520]));
+/// assert_eq!((moved.entered, moved.left), (80, 160));
 /// assert_eq!((totals.entered, totals.left), (160, 320));
+/// let units = |cells: [u32; 3]| cells.map(u64::from).iter().sum::<u64>();
+/// assert_eq!(units(start) + totals.entered, units(second) + totals.left);
 ///
-/// let refusal = welgadou::forecast(&road, &[300, 150, 700], &[100], &[0, 0], 2, &mut out).unwrap_err();
+/// let refusal = welgadou::forecast(&road, &second, &[100], &[0, 0], 2, &mut totals, &mut first).unwrap_err();
 /// assert_eq!(refusal.number, 7);
-/// assert_eq!(out, [150, 320, 520]);
+/// assert_eq!((totals.entered, totals.left), (160, 320));
+/// assert_eq!(first, [220, 250, 600]);
 /// # Ok::<(), welgadou::Refusal>(())
 /// ```
 pub fn forecast(
@@ -41,11 +77,12 @@ pub fn forecast(
     upstream: &[u32],
     downstream: &[u32],
     horizon: u32,
+    totals: &mut Totals,
     out: &mut [u32],
-) -> Result<Totals, Refusal> {
-    let (mut entered, mut left) = (0, 0);
-    ffi::forecast(road, cells, upstream, downstream, horizon, out, &mut entered, &mut left)?;
-    Ok(Totals { entered, left })
+) -> Result<Moved, Refusal> {
+    let mut moved = Moved { entered: 0, left: 0 };
+    ffi::forecast(road, cells, upstream, downstream, horizon, out, &mut moved, totals)?;
+    Ok(moved)
 }
 
 /// The report of a settling run.

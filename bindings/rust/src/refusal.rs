@@ -43,6 +43,7 @@ fn words(number: u32) -> (&'static str, &'static str) {
         16 => ("place", "a station's number is not a number, below 0 or infinite, or a speed beside a flow is 0"),
         17 => ("place", "a station's lone speed times the divisor, rounded, is not below free: no single density"),
         18 => ("place", "a station's estimate is below 0 or above the jam density"),
+        19 => ("place", "a total would pass 18,446,744,073,709,551,615"),
         _ => ("place", "the refusal table has no such number"),
     }
 }

@@ -39,6 +39,7 @@ density 20. The last keyword is end.
   downstream N ..    the downstream end at each step; joined
   pair UP DOWN       the end pair of settle, read, readlast, fit, rows, nearest
   horizon T          steps
+  totals E L         units entered and left since commissioning; 0 0 without it
   word X ..          letters W, L, D or codes 0, 1, 2, face 0 first; joined
   mode M             1 to 7
   estimates L O R    left, own and right, whole
@@ -54,7 +55,7 @@ density 20. The last keyword is end.
 fn asked(page: &mut Page) {
     say::text(
         page,
-        b"  forecast           needs road cells upstream downstream horizon
+        b"  forecast           needs road cells upstream downstream horizon; takes totals
   settle             needs road cells pair horizon
   read               needs road cells pair; the state at the start
   readlast           needs what forecast does, and pair; the state at the end

@@ -2,7 +2,7 @@
 use mathlib.Core.Path.{_≡_, _∙_, refl, sym, ap, subst}
 use mathlib.Core.Bool.{Bool, true, false}
 use mathlib.Core.List.{List, map}
-use Prim.Native.Nat.{ℕ, _-_, _<_}
+use Prim.Native.Nat.{ℕ, _+_, _-_, _<_}
 use native.Mathlib.Omega.{arith}
 use lib.Dec.{T, eqb}
 use lib.IntN.{ℤ, pos}
@@ -14,8 +14,11 @@ use Rattle.road.specs.Table.{Row, judge, rising, Judged}
 use Rattle.road.specs.declared.Road.{Road}
 use Rattle.road.specs.declared.refusal.Refusal.{Refusal}
 use Rattle.checks.specs.Places.{Placed}
+use Rattle.scheme.specs.Sums.{sum}
 use Rattle.scheme.specs.Rounded.{entered, left}
 use Rattle.scheme.specs.ByFaces.{RunByFaces}
+use Rattle.scheme.specs.declared.many_steps.Totals.{Totals}
+use Rattle.forecast.specs.declared.forecasting.ForecastAnswer.{ForecastAnswer}
 use Rattle.forecast.specs.Forecast as Forecast
 use Rattle.forecast.specs.Forecast.{forecastRefusal, forecastAnswer, forecastCells, forecastMeaning}
 use Rattle.forecast.specs.Settle as Settle
@@ -42,8 +45,8 @@ use Rattle.site.specs.Station as Station
 use Rattle.site.specs.Station.{estimateOf, stationRefusal, stationAnswer, stationMeaning}
 use Rattle.site.specs.Nearest.{alters, ranking, numbersOf, changesOf, nearestRefusal, nearestAnswer, nearestNumber, nearestNumbers, nearestChanges, Smallest, Ranked}
 use Rattle.welgadou.specs.Parts.{flagOf}
-use Rattle.cases.specs.Calls.{ValuePlaces, PairWordPlaces, EstimatePlace, Outcome, Called, forecast, settle, read, fit, predict, candidate, count, station, nearest, welgadou-forecast, welgadou-settle, welgadou-read, welgadou-fit, welgadou-rows, welgadou-candidate, welgadou-count, welgadou-station, welgadou-nearest, AcceptedForecast, ForecastMade, AcceptedSettling, SettlingMade, AcceptedReading, ReadingMade, AcceptedFit, FitMade, AcceptedRows, RowsMade, AcceptedCandidate, CandidateMade, AcceptedCount, CountMade, AcceptedStation, StationMade, AcceptedRanking, RankingMade}
-use Rattle.cases.specs.Commission.{Demand1, Demand2, Demand3, Commission}
+use Rattle.cases.specs.Calls.{ValuePlaces, PairWordPlaces, EstimatePlace, Outcome, Called, forecast, settle, read, fit, predict, candidate, count, station, nearest, welgadou-forecast, welgadou-settle, welgadou-read, welgadou-fit, welgadou-rows, welgadou-candidate, welgadou-count, welgadou-station, welgadou-nearest, AcceptedForecast, ForecastMade, ForecastChain, commissioned, fed, AcceptedSettling, SettlingMade, AcceptedReading, ReadingMade, AcceptedFit, FitMade, AcceptedRows, RowsMade, AcceptedCandidate, CandidateMade, AcceptedCount, CountMade, AcceptedStation, StationMade, AcceptedRanking, RankingMade}
+use Rattle.cases.specs.Commission.{Demand1, Demand2, Demand3, SinceCommissioning, Commission}
 
 -- what is chosen by a call's number: the value where it is 0, else the former contents
 value-of : {A : Type 0} {number : ℕ} {got : A} (value former : A) → number ≡ 0 → got ≡ pick (eqb number 0) value former → got ≡ value
@@ -125,7 +128,7 @@ call-told _ (nearest c) = record {
 }
 call-told _ (welgadou-forecast c) = record {
   judged = told-as value-places (c .judged);
-  kept = λ n. (former-of _ _ (λ z. n (c .returned ∙ z)) (c .output), former-of _ _ n (c .entered-written), former-of _ _ n (c .left-written));
+  kept = λ n. (former-of _ _ (λ z. n (c .returned ∙ z)) (c .output), former-of _ _ n (c .entered-written), former-of _ _ n (c .left-written), former-of _ _ n (c .total-entered-written), former-of _ _ n (c .total-left-written));
   table = λ i. record { number = c .returned i; place = c .placed i };
   checks = refl;
   rises = tt;
@@ -181,12 +184,14 @@ demand1 = record {
 }
 
 -- ---- what each accepted call made, in one form for both layers
--- an accepted forecast: demand 3, its steps face by face, and its sums
+-- an accepted forecast: demand 3, its steps face by face, its sums, and the totals
 record ForecastSays (x : AcceptedForecast) : Type 0 where
   demand3 : Forecast.Demand3 (x .road) (x .cells) (x .ups) (x .downs) (x .horizon) (x .next) (x .entered) (x .left)
   by-faces : RunByFaces (x .road) (x .ups) (x .downs) (x .cells) (x .next) (x .entered) (x .left)
   in-sum : x .entered ≡ entered (x .road) (x .ups) (x .downs) (x .cells)
   out-sum : x .left ≡ left (x .road) (x .ups) (x .downs) (x .cells)
+  carried : x .totals-next ≡ Forecast.increased (x .totals) (record { entered = x .entered; left = x .left })
+  fits : Forecast.Fits (x .totals) (Forecast.ownOf (x .road) (x .cells) (x .ups) (x .downs))
 
 forecast-says : (x : AcceptedForecast) → ForecastMade x → ForecastSays x
 unfolding forecastMeaning
@@ -198,6 +203,8 @@ forecast-says _ (forecast {d = d} c e) =
       by-faces = c .by-faces d e;
       in-sum = value-of _ _ none (ap (λ (x : Forecast.Meaning). x .entered) m);
       out-sum = value-of _ _ none (ap (λ (x : Forecast.Meaning). x .left) m);
+      carried = c .carried d e;
+      fits = c .judged .accepted (ap (λ (x : ForecastAnswer). Forecast.meaning x .number) e) .fits;
     }
 forecast-says _ (welgadou-forecast c z) =
     let none = sym (c .returned) ∙ z in
@@ -206,6 +213,8 @@ forecast-says _ (welgadou-forecast c z) =
       by-faces = c .by-faces z;
       in-sum = value-of _ _ none (value-of _ _ z (c .entered-written));
       out-sum = value-of _ _ none (value-of _ _ z (c .left-written));
+      carried = c .carried z;
+      fits = c .judged .accepted z .fits;
     }
 
 -- a flag tells its test
@@ -363,5 +372,29 @@ demand3 = record {
   exact-steps = λ x c. forecast-says x c .demand3 .exact-steps;
 }
 
+-- a call adds its own units to the totals, and demand 3 balances these
+chain-balances : {first cells : List ℕ} {totals : Totals} → ForecastChain first cells totals → sum first + totals .entered ≡ sum cells + totals .left
+chain-balances commissioned = refl
+chain-balances (fed before x c same-cells same-totals) =
+    let says = forecast-says x c in
+    let now = says .demand3 .balanced in
+    let then = chain-balances before in
+    let units = ap sum same-cells in
+    let ins : x .totals-next .entered ≡ x .totals .entered + x .entered = ap (λ (t : Totals). t .entered) (says .carried) in
+    let outs : x .totals-next .left ≡ x .totals .left + x .left = ap (λ (t : Totals). t .left) (says .carried) in
+    let in-before = ap (λ (t : Totals). t .entered) same-totals in
+    let out-before = ap (λ (t : Totals). t .left) same-totals in
+    omega arith
+
+since-commissioning : SinceCommissioning
+since-commissioning = record {
+  increased = λ x c. let t = forecast-says x c .carried in (ap (λ (t : Totals). t .entered) t, ap (λ (t : Totals). t .left) t);
+  largest = λ x c. let s = forecast-says x c in (
+    rw (s .carried, s .in-sum) (s .fits .entered-fits),
+    rw (s .carried, s .out-sum) (s .fits .left-fits),
+  );
+  chain = chain-balances;
+}
+
 pub commission : Commission
-commission = record { demand1 = demand1; demand2 = demand2; demand3 = demand3 }
+commission = record { demand1 = demand1; demand2 = demand2; demand3 = demand3; totals = since-commissioning }

@@ -4,6 +4,9 @@ use lib.Ieee.{round, sum, add, mul, div, lt, eq, le, ne, ofInt, ofBits}
 use Rattle.road.specs.Table.{refused, orIf}
 use Rattle.road.specs.Judgement.{roadRefusal}
 use Rattle.checks.specs.Values.{firstAbove}
+use Rattle.flux.specs.Face.{sending, receiving, numerator, units}
+use Rattle.scheme.specs.Advance.{ahead, advance, outflow, entering, leaving, stepped}
+use Rattle.scheme.specs.Rounded.{entered, left}
 use Rattle.forecast.specs.Forecast.{forecastRefusal, forecastAnswer}
 use Rattle.forecast.specs.Settle.{settleRefusal, settleAnswer}
 use Rattle.words.specs.Words.{illegalPair, offends, firstOffence, legal}
@@ -19,7 +22,7 @@ use Rattle.site.specs.Nearest.{nearestRefusal, nearestAnswer}
 use Rattle.cases.specs.Refusals.{Refusals}
 
 pub refusals : Refusals
-unfolding round sum add mul div lt eq le ne ofInt ofBits orIf roadRefusal firstAbove forecastRefusal forecastAnswer settleRefusal settleAnswer illegalPair offends firstOffence legal readRefusal fitRefusal predictRefusal readAnswer fitAnswer predictAnswer candidateRefusal candidateAnswer candidateMeaning countRefusal countAnswer speedDensity estimateOf badNumber badGiven tooFast stationRefusal stationAnswer nearestRefusal nearestAnswer
+unfolding round sum add mul div lt eq le ne ofInt ofBits orIf roadRefusal firstAbove sending receiving numerator units ahead advance outflow entering leaving stepped entered left forecastRefusal forecastAnswer settleRefusal settleAnswer illegalPair offends firstOffence legal readRefusal fitRefusal predictRefusal readAnswer fitAnswer predictAnswer candidateRefusal candidateAnswer candidateMeaning countRefusal countAnswer speedDensity estimateOf badNumber badGiven tooFast stationRefusal stationAnswer nearestRefusal nearestAnswer
 refusals = record {
   road-1 = refl;
   road-2 = refl;
@@ -38,6 +41,8 @@ refusals = record {
   forecast-9 = refl;
   forecast-10 = refl;
   forecast-11 = refl;
+  forecast-19-entered = refl;
+  forecast-19-left = refl;
   settle-1 = refl;
   settle-2 = refl;
   settle-3 = refl;

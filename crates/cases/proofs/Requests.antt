@@ -8,11 +8,16 @@ use lib.IntN.{ℤ, pos}
 use lib.Ieee.{Float, fin, round, sum, add, mul, div, lt, eq, le, ne, ofInt, ofBits}
 use Rattle.choice.specs.Choice.{pick}
 use Rattle.road.specs.Table.{row, judge, orIf}
-use Rattle.road.specs.Judgement.{roadRows}
+use Rattle.road.specs.Judgement.{roadRows, roadRefusal}
 use Rattle.road.specs.declared.refusal.Refusal.{Refusal}
 use Rattle.flux.specs.Face.{sending, receiving, numerator, units, inW, inL, letter}
+use Rattle.checks.specs.Values.{firstAbove}
+use Rattle.scheme.specs.Advance.{ahead, advance, outflow, entering, leaving, stepped}
+use Rattle.scheme.specs.Rounded.{roundRun, entered, left}
 use Rattle.scheme.specs.Sums.{sameList}
 use Rattle.scheme.specs.Word.{wordOf}
+use Rattle.forecast.specs.Forecast.{forecastRefusal, forecastAnswer, forecastCells}
+use Rattle.forecast.specs.Chain.{afterAll}
 use Rattle.site.specs.Nearest.{alters, searched, change, inserted, rankedTo, ranking}
 use Rattle.site.specs.Station.{whole, speedDensity, estimateOf, badNumber, badGiven, tooFast, badResult, stationRefusal, stationAnswer}
 use Rattle.site.specs.declared.stations.StationReading.{StationReading}
@@ -42,7 +47,7 @@ unfolding tests orIf
 too-fast x g f = by-tests x g f refl refl
 
 pub requested : Requested
-unfolding sending receiving numerator units inW inL letter wordOf sameList alters searched change inserted rankedTo ranking round sum add mul div lt eq le ne ofInt ofBits speedDensity estimateOf badNumber badGiven tooFast
+unfolding sending receiving numerator units orIf roadRefusal firstAbove ahead advance outflow entering leaving stepped roundRun entered left forecastRefusal forecastAnswer forecastCells afterAll inW inL letter wordOf sameList alters searched change inserted rankedTo ranking round sum add mul div lt eq le ne ofInt ofBits speedDensity estimateOf badNumber badGiven tooFast
 requested = record {
   density-1000 = accepted (Density (whole 1000)) 1000 125 (pos 3) refl refl refl refl refl;
   flow-80-speed-0·8 = accepted (FlowAndSpeed (whole 80) four-fifths) 100 25 (pos 2) refl refl refl refl refl;
@@ -53,4 +58,9 @@ requested = record {
   half-passes = refl;
   nearest-three = refl;
   nearest-tie = refl;
+  totals-increased = refl;
+  totals-cell = refl;
+  totals-largest = refl;
+  totals-past = refl;
+  totals-chain = refl;
 }

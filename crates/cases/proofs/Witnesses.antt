@@ -1,6 +1,8 @@
 -- Each witness: the number of its refusal is computed to be 0, so that it is checked.
 use mathlib.Core.Path.{refl}
-use mathlib.Core.List.{[], _∷_}
+use mathlib.Core.List.{List}
+use Prim.Native.Nat.{ℕ}
+use native.Mathlib.Omega.{arith}
 use lib.Dec.{lit≤}
 use lib.ListN.{replicate}
 use lib.Ieee.{round, sum, add, mul, div, lt, eq, le, ne, ofInt, ofBits}
@@ -10,10 +12,14 @@ use Rattle.road.specs.Judgement.{roadRefusal}
 use Rattle.road.proofs.Acceptance.{accepted-of}
 use Rattle.road.proofs.Calls.{checked}
 use Rattle.checks.specs.Values.{firstAbove}
-use Rattle.forecast.specs.Forecast.{forecastRefusal, Checked}
+use Rattle.flux.specs.Face.{sending, receiving, numerator, units}
+use Rattle.scheme.specs.Advance.{ahead, advance, outflow, entering, leaving, stepped}
+use Rattle.scheme.specs.Rounded.{roundRun, entered, left}
+use Rattle.scheme.proofs.Promises.{round-small}
+use Rattle.forecast.specs.Forecast.{inputRefusal, forecastRefusal, InputChecked, Checked}
 use Rattle.forecast.specs.Settle.{settleRefusal, SettleChecked}
-use Rattle.forecast.specs.Chain.{Passes, AllPass}
-use Rattle.forecast.proofs.Checked.{forecast-call, settle-call}
+use Rattle.forecast.specs.ForEver.{Passes, AllPass}
+use Rattle.forecast.proofs.Checked.{input-checked, forecast-call, settle-call}
 use Rattle.words.specs.Words.{illegalPair, offends, firstOffence, legal}
 use Rattle.modes.specs.Judging.{readRefusal, fitRefusal}
 use Rattle.rows.specs.Judging.{predictRefusal}
@@ -27,14 +33,15 @@ use Rattle.site.specs.declared.stations.StationReading.the-variants.{Density, F
 use Rattle.site.specs.Nearest.{nearestRefusal}
 use Rattle.site.proofs.StationAnswers.{station-call}
 use Rattle.site.proofs.NearestJudging.{nearest-call}
-use Rattle.cases.specs.Starred.{roadA, three}
+use Rattle.cases.specs.Starred.{roadA, totals, none, three}
 use Rattle.cases.specs.Requests.{fifth, four-fifths}
-use Rattle.cases.specs.Witnesses.{road, ups, downs, ownWord, threeSteps, upToNine, Witnessed}
+use Rattle.cases.specs.Witnesses.{road, ups, downs, ownWord, threeSteps, upToNine, threeCalls, Witnessed}
 
 -- the calls of the chain pass as the same calls made alone
-module _ (f : Checked roadA three ups downs 3 3) (s : SettleChecked roadA three 100 0 9 3) where
+module _ (f : InputChecked roadA three ups downs 3 3) (s : SettleChecked roadA three 100 0 9 3) where
   forecast-passes : Passes roadA 3 threeSteps
   forecast-passes = record {
+    same-road = refl;
     horizon-high = f .horizon-high;
     ups-long = f .ups-long;
     downs-long = f .downs-long;
@@ -46,19 +53,30 @@ module _ (f : Checked roadA three ups downs 3 3) (s : SettleChecked roadA three 
   settle-passes : Passes roadA 3 upToNine
   settle-passes = record { horizon-high = s .horizon-high; output-long = s .output-long; up-below = s .up-below; down-below = s .down-below }
 
-  passes : AllPass roadA 3 (threeSteps ∷ upToNine ∷ threeSteps ∷ [])
+  passes : AllPass roadA 3 threeCalls
   passes = (forecast-passes, (settle-passes, (forecast-passes, tt)))
 
+-- totals of 0 fit with the longest forecast, by what its steps can move at most
+longest : (cells ups downs : List ℕ) (out : ℕ) → InputChecked roadA cells ups downs horizonCeiling out → Checked roadA cells ups downs horizonCeiling none out
+longest cells ups downs out c =
+    let small = round-small roadA (c .accepted) ups downs cells (c .ups-below) (c .cells-below) in
+    let long = c .ups-long in
+    record { input = c; fits = record { entered-fits = omega (arith, small .0); left-fits = omega (arith, small .1) } }
+
 pub witnessed : Witnessed
-unfolding round sum add mul div lt eq le ne ofInt ofBits orIf roadRefusal firstAbove forecastRefusal settleRefusal illegalPair offends firstOffence legal readRefusal fitRefusal predictRefusal candidateRefusal speedDensity estimateOf badNumber badGiven tooFast stationRefusal nearestRefusal
+unfolding round sum add mul div lt eq le ne ofInt ofBits orIf roadRefusal firstAbove ahead advance outflow entering leaving stepped sending receiving numerator units roundRun entered left inputRefusal forecastRefusal settleRefusal illegalPair offends firstOffence legal readRefusal fitRefusal predictRefusal candidateRefusal speedDensity estimateOf badNumber badGiven tooFast stationRefusal nearestRefusal
 witnessed = record {
   accepted = accepted-of roadA refl;
   accepted-smallest = accepted-of (road 1 1 1 2 1) refl;
-  forecast = checked (forecast-call roadA three ups downs 3 3) refl;
+  forecast = checked (forecast-call roadA three ups downs 3 3 none) refl;
+  forecast-largest = checked (forecast-call roadA three ups downs 3 3 (totals 18446744073709551375 18446744073709551135)) refl;
   forecast-longest =
-      checked (forecast-call roadA (replicate cellsCeiling 200) (replicate horizonCeiling 100) (replicate horizonCeiling 0) horizonCeiling cellsCeiling) refl;
+      longest (replicate cellsCeiling 200) (replicate horizonCeiling 100) (replicate horizonCeiling 0) cellsCeiling
+      (input-checked roadA (replicate cellsCeiling 200) (replicate horizonCeiling 100) (replicate horizonCeiling 0) horizonCeiling cellsCeiling refl);
   settle = checked (settle-call roadA three 100 0 9 3) refl;
-  chain = passes (checked (forecast-call roadA three ups downs 3 3) refl) (checked (settle-call roadA three 100 0 9 3) refl);
+  chain = passes (input-checked roadA three ups downs 3 3 refl) (checked (settle-call roadA three 100 0 9 3) refl);
+  chain-begins = (refl, refl);
+  chain-lasts = lit≤ tt;
   read = checked (read-call roadA three 100 0 4 3) refl;
   fit = checked (fit-call roadA three 100 0 ownWord) refl;
   predict = checked (predict-call roadA three 100 0 ownWord 3) refl;

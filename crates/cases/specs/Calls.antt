@@ -16,6 +16,7 @@ use Rattle.road.specs.declared.refusal.Refusal.{Refusal}
 use Rattle.flux.specs.Face.{letterD}
 use Rattle.scheme.specs.declared.many_steps.Totals.{Totals}
 use Rattle.scheme.specs.declared.settling.Settled.{Settled}
+use Rattle.forecast.specs.declared.forecasting.Record.{Record}
 use Rattle.forecast.specs.declared.forecasting.ForecastAnswer.{ForecastAnswer}
 use Rattle.forecast.specs.declared.forecasting.ForecastAnswer.the-variants as F
 use Rattle.forecast.specs.declared.settling.SettleAnswer.{SettleAnswer}
@@ -102,9 +103,9 @@ EstimatePlace r left own right f =
 abbrev pub NoPlace : Refusal → Type 0
 NoPlace f = f .place ≡ 0
 
--- "Calls and their checks" (document 01; document 02, E1 and E3): which numbers a call's table has, in their order
+-- "Calls and their checks" (document 01; document 02, E1, E3 and E4): which numbers a call's table has, in their order
 abbrev pub forecastChecks : List ℕ
-forecastChecks = 1 ∷ 2 ∷ 3 ∷ 4 ∷ 5 ∷ 6 ∷ 7 ∷ 8 ∷ 9 ∷ 10 ∷ 11 ∷ []
+forecastChecks = 1 ∷ 2 ∷ 3 ∷ 4 ∷ 5 ∷ 6 ∷ 7 ∷ 8 ∷ 9 ∷ 10 ∷ 11 ∷ 19 ∷ []
 
 abbrev pub settleChecks : List ℕ
 settleChecks = 1 ∷ 2 ∷ 3 ∷ 4 ∷ 5 ∷ 6 ∷ 8 ∷ 9 ∷ 10 ∷ 11 ∷ []
@@ -144,16 +145,16 @@ pub record Outcome : Type 1 where
 
 -- the public calls
 pub data Called : Outcome → Type 1 where
-  forecast : {r : Road} {cells ups downs : List ℕ} {t : ℕ} {out next : List ℕ} {a : ForecastAnswer}
-      → Forecasts r cells ups downs t out next a
+  forecast : {r : Road} {cells ups downs : List ℕ} {t : ℕ} {totals : Totals} {out next : List ℕ} {a : ForecastAnswer}
+      → Forecasts r cells ups downs t totals out next a
       → Called (record {
-        rows = forecastRows r cells ups downs t (length out);
+        rows = forecastRows r cells ups downs t totals (length out);
         checks = forecastChecks;
-        Checked = Forecast.Checked r cells ups downs t (length out);
+        Checked = Forecast.Checked r cells ups downs t totals (length out);
         Placed = ValuePlaces r cells ups downs;
         refusal = refused (Forecast.meaning a .number) (Forecast.meaning a .place);
         Kept = next ≡ out;
-        Made = (d : Totals) × (a ≡ F.Done d);
+        Made = (d : Record) × (a ≡ F.Done d);
       })
   settle : {r : Road} {cells : List ℕ} {up down t : ℕ} {out next : List ℕ} {a : SettleAnswer}
       → Settles r cells up down t out next a
@@ -243,15 +244,15 @@ pub data Called : Outcome → Type 1 where
         Kept = (next-numbers ≡ numbers) × (next-changes ≡ changes);
         Made = a ≡ M.Done;
       })
-  welgadou-forecast : {r : Road} {cells ups downs : List ℕ} {t : ℕ} {out next : List ℕ} {entered entered-next left left-next place number : ℕ}
-      → Forecasted r cells ups downs t out next entered entered-next left left-next place number
+  welgadou-forecast : {r : Road} {cells ups downs : List ℕ} {t : ℕ} {totals totals-next : Totals} {out next : List ℕ} {entered entered-next left left-next place number : ℕ}
+      → Forecasted r cells ups downs t out next entered entered-next left left-next totals totals-next place number
       → Called (record {
-        rows = forecastRows r cells ups downs t (length out);
+        rows = forecastRows r cells ups downs t totals (length out);
         checks = forecastChecks;
-        Checked = Forecast.Checked r cells ups downs t (length out);
+        Checked = Forecast.Checked r cells ups downs t totals (length out);
         Placed = ValuePlaces r cells ups downs;
         refusal = refused number place;
-        Kept = (next ≡ out) × (entered-next ≡ entered) × (left-next ≡ left);
+        Kept = (next ≡ out) × (entered-next ≡ entered) × (left-next ≡ left) × (totals-next .entered ≡ totals .entered) × (totals-next .left ≡ totals .left);
         Made = Unit {0};
       })
   welgadou-settle : {r : Road} {cells : List ℕ} {up down t : ℕ} {out next : List ℕ} {settled settled-next steps steps-next place number : ℕ}
@@ -351,17 +352,48 @@ pub record AcceptedForecast : Type 0 where
   pub ups : List ℕ
   pub downs : List ℕ
   pub horizon : ℕ
+  pub totals : Totals
   pub next : List ℕ
   pub entered : ℕ
   pub left : ℕ
+  pub totals-next : Totals
 
 pub data ForecastMade : AcceptedForecast → Type 0 where
-  forecast : {r : Road} {cells ups downs : List ℕ} {t : ℕ} {out next : List ℕ} {a : ForecastAnswer} {d : Totals}
-      → Forecasts r cells ups downs t out next a → a ≡ F.Done d
-      → ForecastMade (record { road = r; cells = cells; ups = ups; downs = downs; horizon = t; next = next; entered = d .entered; left = d .left })
-  welgadou-forecast : {r : Road} {cells ups downs : List ℕ} {t : ℕ} {out next : List ℕ} {entered entered-next left left-next place number : ℕ}
-      → Forecasted r cells ups downs t out next entered entered-next left left-next place number → number ≡ 0
-      → ForecastMade (record { road = r; cells = cells; ups = ups; downs = downs; horizon = t; next = next; entered = entered-next; left = left-next })
+  forecast : {r : Road} {cells ups downs : List ℕ} {t : ℕ} {totals : Totals} {out next : List ℕ} {a : ForecastAnswer} {d : Record}
+      → Forecasts r cells ups downs t totals out next a → a ≡ F.Done d
+      → ForecastMade (record {
+        road = r;
+        cells = cells;
+        ups = ups;
+        downs = downs;
+        horizon = t;
+        totals = totals;
+        next = next;
+        entered = d .own .entered;
+        left = d .own .left;
+        totals-next = d .totals;
+      })
+  welgadou-forecast : {r : Road} {cells ups downs : List ℕ} {t : ℕ} {totals totals-next : Totals} {out next : List ℕ} {entered entered-next left left-next place number : ℕ}
+      → Forecasted r cells ups downs t out next entered entered-next left left-next totals totals-next place number → number ≡ 0
+      → ForecastMade (record {
+        road = r;
+        cells = cells;
+        ups = ups;
+        downs = downs;
+        horizon = t;
+        totals = totals;
+        next = next;
+        entered = entered-next;
+        left = left-next;
+        totals-next = totals-next;
+      })
+
+-- a "chain of accepted calls that begins with both totals 0, each fed with the last one's cells and totals" (document 02, E4): the cells at commissioning, those now,
+-- and the totals now. Its calls may be of either layer
+pub data ForecastChain (first : List ℕ) : List ℕ → Totals → Type 0 where
+  commissioned : ForecastChain first first (record { entered = 0; left = 0 })
+  fed : {cells : List ℕ} {totals : Totals} → ForecastChain first cells totals
+      → (x : AcceptedForecast) → ForecastMade x → x .cells ≡ cells → x .totals ≡ totals → ForecastChain first (x .next) (x .totals-next)
 
 pub record AcceptedSettling : Type 0 where
   pub road : Road

@@ -1,5 +1,5 @@
--- The commission: its three demands, their sentences quoted, over every public call there is (`Calls`). A reader starts here.
--- Besides, "the years I cannot watch" are `for-ever`, of calls in a chain: `forecast`'s specs/Chain.antt.
+-- The commission: its three demands and the totals since commissioning, their sentences quoted, over every public call there is (`Calls`). A reader starts here.
+-- Besides, "the years I cannot watch" are `for-ever`, of calls in a chain: `forecast`'s specs/ForEver.antt.
 use mathlib.Core.Path.{_≡_}
 use mathlib.Core.Bool.{true, false}
 use mathlib.Core.Logic.{_↔_}
@@ -20,6 +20,7 @@ use Rattle.scheme.specs.Rounded.{roundStep, roundRun, entered, left}
 use Rattle.scheme.specs.ByFaces.{RunByFaces, ExactStepByFaces, ExactRunByFaces}
 use Rattle.scheme.specs.Exact.{exactStep, exactRun}
 use Rattle.scheme.specs.Settling.{still, after}
+use Rattle.scheme.specs.declared.many_steps.Totals.{Totals}
 use Rattle.forecast.specs.Settle.{PairByFaces}
 use Rattle.words.specs.Words.{legal}
 use Rattle.modes.specs.ReadOff.{upstreamOf, downstreamOf, cellsOf}
@@ -37,7 +38,7 @@ use Rattle.counting.specs.LegalWordsCounted.{legalWords, StandsAt}
 use Rattle.candidate.specs.Candidate.{rowFor, candidateNumerator}
 use Rattle.site.specs.Station.{estimateOf}
 use Rattle.site.specs.Nearest.{alters, ranking, numbersOf, changesOf, Smallest}
-use Rattle.cases.specs.Calls.{Outcome, Called, AcceptedForecast, ForecastMade, AcceptedSettling, SettlingMade, AcceptedReading, ReadingMade, AcceptedFit, FitMade, AcceptedRows, RowsMade, AcceptedCandidate, CandidateMade, AcceptedCount, CountMade, AcceptedStation, StationMade, AcceptedRanking, RankingMade}
+use Rattle.cases.specs.Calls.{Outcome, Called, AcceptedForecast, ForecastMade, ForecastChain, AcceptedSettling, SettlingMade, AcceptedReading, ReadingMade, AcceptedFit, FitMade, AcceptedRows, RowsMade, AcceptedCandidate, CandidateMade, AcceptedCount, CountMade, AcceptedStation, StationMade, AcceptedRanking, RankingMade}
 
 -- of whatever a public call did with its input
 abbrev EachCall : (Outcome → Type 0) → Type 1
@@ -240,7 +241,19 @@ pub record Demand3 : Type 0 where
   pub exact-cells : EachForecast (λ x. length (exactRun (x .road) 1 (x .ups) (x .downs) (x .cells)) ≡ length (x .cells))
   pub exact-steps : EachForecast (λ x. ExactRunByFaces (x .road) 1 (x .ups) (x .downs) (x .cells) (exactRun (x .road) 1 (x .ups) (x .downs) (x .cells)))
 
+-- "Totals since commissioning" (document 02, E4). That a refused call alters neither cells nor totals is `kept` of demand 1, of the output and, for C, of both totals:
+-- cells are only read
+pub record SinceCommissioning : Type 0 where
+  -- the totals so far come back "increased by the call's own entered and left"
+  pub increased : EachForecast (λ x. (x .totals-next .entered ≡ x .totals .entered + x .entered) × (x .totals-next .left ≡ x .totals .left + x .left))
+  -- and none has passed 18,446,744,073,709,551,615
+  pub largest : EachForecast (λ x. (x .totals-next .entered ≤ 18446744073709551615) × (x .totals-next .left ≤ 18446744073709551615))
+  -- "Over any chain of accepted calls that begins with both totals 0, each fed with the last one's cells and totals, units at commissioning plus entered minus left are
+  -- the units on the road"
+  pub chain : {first cells : List ℕ} {totals : Totals} → ForecastChain first cells totals → sum first + totals .entered ≡ sum cells + totals .left
+
 pub record Commission : Type 1 where
   pub demand1 : Demand1
   pub demand2 : Demand2
   pub demand3 : Demand3
+  pub totals : SinceCommissioning

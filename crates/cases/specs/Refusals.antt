@@ -1,4 +1,4 @@
--- Every number of the refusal table (document 01, "Where each refusal is made"; document 02, E1 and E3), pinned by an input: one record, one field a number of a call.
+-- Every number of the refusal table (document 01, "Where each refusal is made"; document 02, E1, E3 and E4), pinned by an input: one record, one field a number of a call.
 -- But where a comment says otherwise the named row alone applies to its input, so that no two numbers can be exchanged. Where a row has a place and room for it, a later
 -- offence stands behind the first one.
 use mathlib.Core.Path.{_≡_}
@@ -32,7 +32,7 @@ use Rattle.site.specs.declared.stations.StationAnswer.the-variants as Station
 use Rattle.site.specs.Nearest.{nearestAnswer}
 use Rattle.site.specs.declared.ranking.NearestAnswer.the-variants as Nearest
 use Rattle.welgadou.specs.Level2.{CandidatePredicted}
-use Rattle.cases.specs.Starred.{roadA, three}
+use Rattle.cases.specs.Starred.{roadA, totals, none, three}
 use Rattle.cases.specs.Requests.{four-fifths}
 use Rattle.cases.specs.Witnesses.{road, ups, downs, ownWord}
 
@@ -79,20 +79,23 @@ pub record Refusals : Type 0 where
   pub road-2 : roadRefusal (road 5 6 1 1000 200) ≡ refused 2 0
   pub road-3 : roadRefusal (road 5 4 1 1000 1000) ≡ refused 3 0
   pub road-4 : roadRefusal (road 5 4 1 1000 201) ≡ refused 4 0
-  -- forecast: cells, upstream and downstream ends, T, length of the output
-  pub forecast-1 : forecastAnswer road1 three ups downs 3 3 ≡ Forecast.Refused (refused 1 0)
-  pub forecast-2 : forecastAnswer road2 three ups downs 3 3 ≡ Forecast.Refused (refused 2 0)
-  pub forecast-3 : forecastAnswer road3 three ups downs 3 3 ≡ Forecast.Refused (refused 3 0)
-  pub forecast-4 : forecastAnswer road4 three ups downs 3 3 ≡ Forecast.Refused (refused 4 0)
-  pub forecast-5-none : forecastAnswer roadA [] ups downs 3 0 ≡ Forecast.Refused (refused 5 0)
-  pub forecast-5-many : forecastAnswer roadA (replicate 257 0) ups downs 3 257 ≡ Forecast.Refused (refused 5 0)
-  pub forecast-6 : forecastAnswer roadA three (replicate 4097 0) (replicate 4097 0) 4097 3 ≡ Forecast.Refused (refused 6 0)
-  pub forecast-7-up : forecastAnswer roadA three two downs 3 3 ≡ Forecast.Refused (refused 7 0)
-  pub forecast-7-down : forecastAnswer roadA three ups two 3 3 ≡ Forecast.Refused (refused 7 0)
-  pub forecast-8 : forecastAnswer roadA three ups downs 3 2 ≡ Forecast.Refused (refused 8 0)
-  pub forecast-9 : forecastAnswer roadA above ups downs 3 3 ≡ Forecast.Refused (refused 9 2)
-  pub forecast-10 : forecastAnswer roadA three above downs 3 3 ≡ Forecast.Refused (refused 10 1)
-  pub forecast-11 : forecastAnswer roadA three ups above 3 3 ≡ Forecast.Refused (refused 11 1)
+  -- forecast: cells, upstream and downstream ends, T, the totals so far, length of the output
+  pub forecast-1 : forecastAnswer road1 three ups downs 3 none 3 ≡ Forecast.Refused (refused 1 0)
+  pub forecast-2 : forecastAnswer road2 three ups downs 3 none 3 ≡ Forecast.Refused (refused 2 0)
+  pub forecast-3 : forecastAnswer road3 three ups downs 3 none 3 ≡ Forecast.Refused (refused 3 0)
+  pub forecast-4 : forecastAnswer road4 three ups downs 3 none 3 ≡ Forecast.Refused (refused 4 0)
+  pub forecast-5-none : forecastAnswer roadA [] ups downs 3 none 0 ≡ Forecast.Refused (refused 5 0)
+  pub forecast-5-many : forecastAnswer roadA (replicate 257 0) ups downs 3 none 257 ≡ Forecast.Refused (refused 5 0)
+  pub forecast-6 : forecastAnswer roadA three (replicate 4097 0) (replicate 4097 0) 4097 none 3 ≡ Forecast.Refused (refused 6 0)
+  pub forecast-7-up : forecastAnswer roadA three two downs 3 none 3 ≡ Forecast.Refused (refused 7 0)
+  pub forecast-7-down : forecastAnswer roadA three ups two 3 none 3 ≡ Forecast.Refused (refused 7 0)
+  pub forecast-8 : forecastAnswer roadA three ups downs 3 none 2 ≡ Forecast.Refused (refused 8 0)
+  pub forecast-9 : forecastAnswer roadA above ups downs 3 none 3 ≡ Forecast.Refused (refused 9 2)
+  pub forecast-10 : forecastAnswer roadA three above downs 3 none 3 ≡ Forecast.Refused (refused 10 1)
+  pub forecast-11 : forecastAnswer roadA three ups above 3 none 3 ≡ Forecast.Refused (refused 11 1)
+  -- either total alone, by one unit: the three steps let 240 enter and 480 leave
+  pub forecast-19-entered : forecastAnswer roadA three ups downs 3 (totals 18446744073709551376 0) 3 ≡ Forecast.Refused (refused 19 0)
+  pub forecast-19-left : forecastAnswer roadA three ups downs 3 (totals 0 18446744073709551136) 3 ≡ Forecast.Refused (refused 19 0)
   -- settling run: cells, the end pair, T, length of the output
   pub settle-1 : settleAnswer road1 three 100 0 9 3 ≡ Settle.Refused (refused 1 0)
   pub settle-2 : settleAnswer road2 three 100 0 9 3 ≡ Settle.Refused (refused 2 0)

@@ -1,19 +1,24 @@
--- The values of document 02, request by request: one record, one field a value. E1 and E3 print none: their values are worked from their words. Those of E2 on
+-- The values of document 02, request by request: one record, one field a value. E1, E3 and E4 print none: their values are worked from their words. Those of E2 on
 -- road A are among the starred cases.
 use mathlib.Core.Path.{_≡_}
-use mathlib.Core.List.{[], _∷_}
+use mathlib.Core.List.{List, [], _∷_}
 use Prim.Native.Nat.{ℕ}
 use lib.IntN.{ℤ, pos, negsuc}
 use lib.Ieee.{Float, binary64, ofBits}
 use Rattle.road.specs.Table.{refused}
 use Rattle.road.specs.declared.Road.{Road}
 use Rattle.flux.specs.Face.{numerator, units}
+use Rattle.scheme.specs.declared.many_steps.Totals.{Totals}
+use Rattle.forecast.specs.declared.forecasting.ForecastAnswer.{ForecastAnswer}
+use Rattle.forecast.specs.declared.forecasting.ForecastAnswer.the-variants as Forecast
+use Rattle.forecast.specs.Forecast.{forecastAnswer, forecastCells}
+use Rattle.forecast.specs.Chain.{Call, Site, afterAll}
 use Rattle.site.specs.Nearest.{Entry, ranking}
 use Rattle.site.specs.Station.{whole, stationAnswer}
 use Rattle.site.specs.declared.stations.StationReading.{StationReading}
 use Rattle.site.specs.declared.stations.StationReading.the-variants.{Density, FlowAndSpeed, Speed}
 use Rattle.site.specs.declared.stations.StationAnswer.the-variants.{Done, Refused}
-use Rattle.cases.specs.Starred.{roadA, three}
+use Rattle.cases.specs.Starred.{roadA, totals, none, three}
 
 -- a float by its bits: the ones nearest to 0.2, 0.6 and 0.8
 abbrev pub fifth : Float
@@ -40,6 +45,20 @@ halfRoad = record { divisor = 2; free = 1; wave = 1; jam = 2; critical = 1 }
 abbrev pub entry : ℕ → ℤ → Entry
 entry cell change = record { cell = cell; change = change }
 
+-- E4: one step of road A from the starred cell 101 between empty ends, with totals so far; what comes back where nothing is refused
+abbrev pub oneStepOn : Totals → ForecastAnswer
+oneStepOn so-far = forecastAnswer roadA (101 ∷ []) (0 ∷ []) (0 ∷ []) 1 so-far 1
+
+abbrev pub made : Totals → Totals → ForecastAnswer
+made own total = Forecast.Done (record { own = own; totals = total })
+
+-- one step of a chain on road A, between two ends
+abbrev pub step : ℕ → ℕ → Call
+step up down = record { road = roadA; horizon = 1; ups = up ∷ []; downs = down ∷ []; out = three }
+
+abbrev pub site : List ℕ → Totals → Site
+site cells so-far = record { cells = cells; totals = so-far }
+
 pub record Requested : Type 0 where
   -- E1, station readings
   pub density-1000 : gives (Density (whole 1000)) 1000
@@ -53,3 +72,9 @@ pub record Requested : Type 0 where
   -- E3, how near the next mode is: the starred three cells, of which the second is the most fragile; and a cell that is as far from either threshold: down
   pub nearest-three : ranking roadA 100 0 three ≡ entry 2 (pos 51) ∷ entry 1 (negsuc 99) ∷ entry 3 (negsuc 299) ∷ []
   pub nearest-tie : ranking roadA 100 204 (400 ∷ []) ≡ entry 1 (negsuc 200) ∷ []
+  -- E4, totals since commissioning: increased beside the own counts; the largest itself; one unit past it; and a chain of five whose third is refused
+  pub totals-increased : oneStepOn (totals 7 5) ≡ made (totals 0 81) (totals 7 86)
+  pub totals-cell : forecastCells roadA (101 ∷ []) (0 ∷ []) (0 ∷ []) 1 (totals 7 5) (0 ∷ []) ≡ 20 ∷ []
+  pub totals-largest : oneStepOn (totals 7 18446744073709551534) ≡ made (totals 0 81) (totals 7 18446744073709551615)
+  pub totals-past : oneStepOn (totals 7 18446744073709551535) ≡ Forecast.Refused (refused 19 0)
+  pub totals-chain : afterAll (site three none) (step 100 0 ∷ step 100 0 ∷ step 1001 0 ∷ step 120 0 ∷ step 150 900 ∷ []) ≡ site (145 ∷ 336 ∷ 545 ∷ []) (totals 376 500)

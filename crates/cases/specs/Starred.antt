@@ -8,6 +8,7 @@ use lib.ListN.{length}
 use Rattle.road.specs.declared.Road.{Road}
 use Rattle.flux.specs.Face.{numerator, units, letterW, letterL, letterD, letter}
 use Rattle.scheme.specs.Exact.{exactStep}
+use Rattle.scheme.specs.declared.many_steps.Totals.{Totals}
 use Rattle.forecast.specs.Forecast as Forecast
 use Rattle.forecast.specs.Settle as Settle
 use Rattle.modes.specs.Reading.{readLetters, readModes}
@@ -24,12 +25,19 @@ roadA = record { divisor = 5; free = 4; wave = 1; jam = 1000; critical = 200 }
 abbrev pub moves : ℕ → ℕ → ℕ
 moves a b = units roadA (numerator roadA a b)
 
--- one step of road A from some cells between two ends: what the forecast reports and hands back
+-- totals since commissioning, and both 0
+abbrev pub totals : ℕ → ℕ → Totals
+totals entered left = record { entered = entered; left = left }
+
+abbrev pub none : Totals
+none = totals 0 0
+
+-- one step of road A from some cells between two ends, with totals of 0: what the forecast reports and hands back
 abbrev pub oneStep : List ℕ → ℕ → ℕ → Forecast.Meaning
-oneStep cells up down = Forecast.meaning (Forecast.forecastAnswer roadA cells (up ∷ []) (down ∷ []) 1 (length cells))
+oneStep cells up down = Forecast.meaning (Forecast.forecastAnswer roadA cells (up ∷ []) (down ∷ []) 1 none (length cells))
 
 abbrev pub oneStepCells : List ℕ → ℕ → ℕ → List ℕ
-oneStepCells cells up down = Forecast.forecastCells roadA cells (up ∷ []) (down ∷ []) 1 cells
+oneStepCells cells up down = Forecast.forecastCells roadA cells (up ∷ []) (down ∷ []) 1 none cells
 
 -- the starred three cells
 abbrev pub three : List ℕ

@@ -8,7 +8,8 @@ use Rattle.road.specs.declared.Road.{Road}
 use Rattle.flux.specs.Face.{letterW, letterL, letterD}
 use Rattle.forecast.specs.Forecast.{Checked}
 use Rattle.forecast.specs.Settle.{SettleChecked}
-use Rattle.forecast.specs.Chain.{Call, forecast, settle, AllPass}
+use Rattle.forecast.specs.Chain.{Commissioned}
+use Rattle.forecast.specs.ForEver.{AnyCall, forecast, settle, AllPass, forecastSteps, lifetime}
 use Rattle.modes.specs.Reading.{ReadChecked}
 use Rattle.modes.specs.Fit.{FitChecked}
 use Rattle.rows.specs.Prediction.{PredictChecked}
@@ -16,8 +17,8 @@ use Rattle.candidate.specs.Candidate.{CandidateChecked}
 use Rattle.site.specs.Station.{whole, StationChecked}
 use Rattle.site.specs.Nearest.{NearestChecked}
 use Rattle.site.specs.declared.stations.StationReading.the-variants.{Density, FlowAndSpeed, Speed}
-use Rattle.cases.specs.Starred.{roadA, three}
-use Rattle.cases.specs.Requests.{fifth, four-fifths}
+use Rattle.cases.specs.Starred.{roadA, totals, none, three}
+use Rattle.cases.specs.Requests.{fifth, four-fifths, site}
 
 -- a road from its five numbers: D, p, q, J, C
 abbrev pub road : ℕ → ℕ → ℕ → ℕ → ℕ → Road
@@ -35,23 +36,29 @@ abbrev pub ownWord : List ℕ
 ownWord = letterD ∷ letterL ∷ letterW ∷ letterL ∷ []
 
 -- calls of a chain, each with an output that held the starred cells
-abbrev pub threeSteps : Call
-threeSteps = forecast (record { horizon = 3; ups = ups; downs = downs; out = three })
+abbrev pub threeSteps : AnyCall
+threeSteps = forecast (record { road = roadA; horizon = 3; ups = ups; downs = downs; out = three })
 
-abbrev pub upToNine : Call
+abbrev pub upToNine : AnyCall
 upToNine = settle (record { horizon = 9; up = 100; down = 0; out = three })
+
+abbrev pub threeCalls : List AnyCall
+threeCalls = threeSteps ∷ upToNine ∷ threeSteps ∷ []
 
 pub record Witnessed : Type 0 where
   -- a road: road A, and the smallest, "J 2, C 1, D p q all 1"
   pub accepted : Accepted roadA
   pub accepted-smallest : Accepted (road 1 1 1 2 1)
-  -- forecast: cells, upstream and downstream ends, T, length of the output; and the longest on the most cells
-  pub forecast : Checked roadA three ups downs 3 3
-  pub forecast-longest : Checked roadA (replicate cellsCeiling 200) (replicate horizonCeiling 100) (replicate horizonCeiling 0) horizonCeiling cellsCeiling
+  -- forecast: cells, upstream and downstream ends, T, the totals so far, length of the output; totals that come to the largest itself; and the longest on the most cells
+  pub forecast : Checked roadA three ups downs 3 none 3
+  pub forecast-largest : Checked roadA three ups downs 3 (totals 18446744073709551375 18446744073709551135) 3
+  pub forecast-longest : Checked roadA (replicate cellsCeiling 200) (replicate horizonCeiling 100) (replicate horizonCeiling 0) horizonCeiling none cellsCeiling
   -- settling run: cells, the end pair, T, length of the output
   pub settle : SettleChecked roadA three 100 0 9 3
   -- a chain of three calls, for ever: a forecast of three steps, a settling run of up to nine, and the forecast again
-  pub chain : AllPass roadA 3 (threeSteps ∷ upToNine ∷ threeSteps ∷ [])
+  pub chain : AllPass roadA 3 threeCalls
+  pub chain-begins : Commissioned (site three none)
+  pub chain-lasts : forecastSteps threeCalls ≤ lifetime
   -- reading: cells, the end pair, lengths of the letters and of the modes
   pub read : ReadChecked roadA three 100 0 4 3
   -- fit test and row prediction: cells, the end pair, the word, and the second's length of the output

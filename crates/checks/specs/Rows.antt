@@ -1,4 +1,4 @@
--- The refusal table of document 01 and of document 02 up to E3, whole: a named row for each number. A call's table is a list of these names.
+-- The refusal table of document 01 and of document 02 up to E4, whole: a named row for each number. A call's table is a list of these names.
 --
 --   number   row                        defined in                place reported
 --   1        divisorRow                 road, Judgement           0
@@ -19,6 +19,7 @@
 --   16       givenRow                   site, Station             0
 --   17       fastRow                    site, Station             0
 --   18       resultRow                  site, Station             0
+--   19       totalRow                   forecast, Forecast        0
 use mathlib.Core.List.{List, [], _∷_}
 use Prim.Native.Nat.{ℕ, _+_}
 use Rattle.choice.specs.Choice.{or}

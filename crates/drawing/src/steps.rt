@@ -2,6 +2,7 @@
 use forecast::ForecastAnswer;
 use request::numbers;
 use road::Road;
+use scheme::Totals;
 
 // The most cells, and the room of a cell's shades: one for each step and one for the start.
 pub const CELLS: usize = Road::CELLS as usize;
@@ -39,11 +40,16 @@ fn copy(from: &[u32], to: &mut [u32]) {
     }
 }
 
-// One step of the forecast, in place; whether it was made.
+// One step of the forecast, in place; whether it was made. The picture is drawn once the totals were judged: none are
+// carried here.
 fn step(road: Road, cells: &mut [u32], up: u32, down: u32, out: &mut [u32]) -> bool {
     let ups = [up; 1];
     let downs = [down; 1];
-    match forecast::forecast(road, cells, &ups, &downs, 1, out) {
+    let none = Totals {
+        entered: 0,
+        left: 0,
+    };
+    match forecast::forecast(road, cells, &ups, &downs, 1, none, out) {
         ForecastAnswer::Done(_) => {
             copy(out, cells);
             true

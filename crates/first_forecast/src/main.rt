@@ -2,6 +2,7 @@
 use forecast::ForecastAnswer;
 use libc::STDOUT_FILENO;
 use road::Road;
+use scheme::Totals;
 
 fn text(s: &[u8]) {
     io::write_all(STDOUT_FILENO, s);
@@ -45,8 +46,12 @@ fn main() {
         critical: 200,
     };
     let mut out = [0u32; 3];
-    match forecast::forecast(road, &[300, 150, 700], &[100], &[0], 1, &mut out) {
-        ForecastAnswer::Done(totals) => say_done(totals.entered, totals.left, &out),
+    let totals = Totals {
+        entered: 0,
+        left: 0,
+    };
+    match forecast::forecast(road, &[300, 150, 700], &[100], &[0], 1, totals, &mut out) {
+        ForecastAnswer::Done(record) => say_done(record.own.entered, record.own.left, &out),
         ForecastAnswer::Refused(refusal) => say_refused(refusal.number, refusal.place),
     }
 }

@@ -1,37 +1,41 @@
 -- The answers and outputs, accepted and refused, and demand 3 from the equations.
-use mathlib.Core.Path.{_≡_, _∙_, refl, sym, ap}
-use mathlib.Core.Bool.{true≢false}
+use mathlib.Core.Path.{_≡_, _∙_, refl, sym, ap, subst}
+use mathlib.Core.Bool.{Bool, true, false, true≢false}
 use mathlib.Core.List.{List}
-use Prim.Native.Nat.{ℕ}
+use Prim.Native.Nat.{ℕ, _+_, _*_}
+use native.Mathlib.Omega.{arith}
 use lib.ListN.{length}
+use Rattle.choice.specs.Choice.{pick}
+use Rattle.road.specs.Table.{refused, passed}
+use Rattle.road.specs.Ceilings.{jamCeiling}
 use Rattle.road.specs.declared.Road.{Road}
 use Rattle.road.specs.declared.refusal.Refusal.{Refusal}
 use Rattle.road.proofs.Calls.{refuses, accepts}
-use Rattle.scheme.specs.Rounded.{entered, left}
 use Rattle.scheme.specs.Settling.{after, settles, settleSteps, settleCells}
 use Rattle.scheme.specs.ByFaces.{RunByFaces}
 use Rattle.scheme.specs.Calls.{Ran, SettledTo}
 use Rattle.scheme.specs.declared.many_steps.Totals.{Totals}
 use Rattle.scheme.specs.declared.settling.Settled.{Settled}
-use Rattle.scheme.proofs.Promises.{roundRun-length, exactRun-length, round-range, round-balance, round-near, settle-range, settle-length}
+use Rattle.scheme.proofs.Promises.{roundRun-length, exactRun-length, round-range, round-balance, round-small, round-near, settle-range, settle-length}
 use Rattle.scheme.proofs.Settlement.{least-still}
 use Rattle.scheme.proofs.ByFaces.{run-by-faces, after-by-faces, exact-run-by-faces}
+use Rattle.forecast.specs.declared.forecasting.Record.{Record}
 use Rattle.forecast.specs.declared.forecasting.ForecastAnswer.{ForecastAnswer}
 use Rattle.forecast.specs.declared.forecasting.ForecastAnswer.the-variants as F
 use Rattle.forecast.specs.declared.settling.SettleAnswer.{SettleAnswer}
 use Rattle.forecast.specs.declared.settling.SettleAnswer.the-variants as S
-use Rattle.forecast.specs.Forecast.{forecastRefusal, Checked, forecastAnswer, forecastCells, forecastMeaning, meaning, Demand3, Forecasts}
+use Rattle.forecast.specs.Forecast.{InputChecked, ownOf, increased, carriedOn, totalRow, Fits, forecastRefusal, forecastAnswer, forecastCells, forecastMeaning, meaning, Demand3, Forecasts}
 use Rattle.forecast.specs.Settle.{settleRefusal, SettleChecked, settleAnswer, settleOutput, settleMeaning, meaning as settle-meaning, Settlement, Settles}
-use Rattle.forecast.proofs.Checked.{forecast-call, settle-call}
+use Rattle.forecast.proofs.Checked.{fits-pass, forecast-call, total-decides, settle-call}
 
 -- what an accepted forecast carries is what its answer says
-same-totals : {d e : Totals} → _≡_ {A = ForecastAnswer} (F.Done d) (F.Done e) → d ≡ e
-same-totals q = cc
+same-record : {d e : Record} → _≡_ {A = ForecastAnswer} (F.Done d) (F.Done e) → d ≡ e
+same-record q = cc
 
 module _ (r : Road) (cells ups downs : List ℕ) (t : ℕ) (out : List ℕ) where
   -- demand 3, of every run that the checks let through
-  demand3 : Checked r cells ups downs t (length out) → (next : List ℕ) (d : Totals) → Ran r ups downs cells next d → Demand3 r cells ups downs t next (d .entered) (d .left)
-  demand3 c next d ran =
+  demand3 : InputChecked r cells ups downs t (length out) → (next : List ℕ) (own : Totals) → Ran r ups downs cells next own → Demand3 r cells ups downs t next (own .entered) (own .left)
+  demand3 c next own ran =
       let ok = c .accepted in
       record {
         ups-long = c .ups-long;
@@ -46,38 +50,67 @@ module _ (r : Road) (cells ups downs : List ℕ) (t : ℕ) (out : List ℕ) wher
       }
 
   -- and demand 2 of it
-  by-faces : Checked r cells ups downs t (length out) → (next : List ℕ) (d : Totals) → Ran r ups downs cells next d → RunByFaces r ups downs cells next (d .entered) (d .left)
-  by-faces c next d ran =
+  by-faces : InputChecked r cells ups downs t (length out) → (next : List ℕ) (own : Totals) → Ran r ups downs cells next own → RunByFaces r ups downs cells next (own .entered) (own .left)
+  by-faces c next own ran =
       rw (ran .cells, ran .entered, ran .left) (run-by-faces r (c .accepted) ups downs cells (c .ups-long ∙ sym (c .downs-long)))
 
-  -- refused: the number and place of the table, and the former contents
-  pub refused : (f : Refusal) → f ≡ forecastRefusal r cells ups downs t (length out) → (f .number ≡ 0 → ⊥) → Forecasts r cells ups downs t out out (F.Refused f)
-  unfolding forecastAnswer forecastCells forecastMeaning
-  refused f e n =
-      let k = refuses (forecast-call r cells ups downs t (length out)) e n in
-      record {
-        answer = rw (k .no) (ap F.Refused e);
-        means = rw (k .no) (ap (λ (g : Refusal). meaning (F.Refused g)) e);
-        output = rw (k .no) refl;
-        judged = k .judged;
-        demand3 = λ d q. absurd (true≢false (cc q));
-        by-faces = λ d q. absurd (true≢false (cc q));
-      }
+  module _ (totals : Totals) where
+    -- refused: the number and place of the table, and the former contents
+    pub forecast-refused : (f : Refusal) → f ≡ forecastRefusal r cells ups downs t totals (length out) → (f .number ≡ 0 → ⊥) → Forecasts r cells ups downs t totals out out (F.Refused f)
+    unfolding forecastAnswer forecastCells forecastMeaning
+    forecast-refused f e n =
+        let k = refuses (forecast-call r cells ups downs t (length out) totals) e n in
+        record {
+          answer = rw (k .no) (ap F.Refused e);
+          means = rw (k .no) (ap (λ (g : Refusal). meaning (F.Refused g)) e);
+          output = rw (k .no) refl;
+          judged = k .judged;
+          demand3 = λ d q. absurd (true≢false (cc q));
+          by-faces = λ d q. absurd (true≢false (cc q));
+          carried = λ d q. absurd (true≢false (cc q));
+        }
 
-  -- accepted: the run's sums and cells
-  pub done : forecastRefusal r cells ups downs t (length out) .number ≡ 0 → (next : List ℕ) (d : Totals) → Ran r ups downs cells next d → Forecasts r cells ups downs t out next (F.Done d)
-  unfolding forecastAnswer forecastCells forecastMeaning
-  done e next d ran =
-      let k = accepts (forecast-call r cells ups downs t (length out)) e in
-      let totals : d ≡ record { entered = entered r ups downs cells; left = left r ups downs cells } = λ i. record { entered = ran .entered i; left = ran .left i } in
-      record {
-        answer = rw (k .yes) (ap F.Done totals);
-        means = rw (k .yes) (λ i. record { number = sym (k .nothing) i .number; place = sym (k .nothing) i .place; entered = ran .entered i; left = ran .left i });
-        output = rw (k .yes) (ran .cells);
-        judged = k .judged;
-        demand3 = λ c q. rw (same-totals q) at (demand3 (k .checked) next d ran);
-        by-faces = λ c q. rw (same-totals q) at (by-faces (k .checked) next d ran);
-      }
+    module _ (c : InputChecked r cells ups downs t (length out)) {next : List ℕ} {own : Totals} (ran : Ran r ups downs cells next own) where
+      sums : own ≡ ownOf r cells ups downs
+      sums i = record { entered = ran .entered i; left = ran .left i }
+
+      -- once the run is made 19 decides, of its own sums
+      decided : {passes : Bool} → passes ≡ totalRow totals own .condition → forecastRefusal r cells ups downs t totals (length out) ≡ pick passes (refused 19 0) passed
+      decided q = total-decides r cells ups downs t (length out) totals c (q ∙ ap (λ (o : Totals). totalRow totals o .condition) sums)
+
+      pub total-refused : {passes : Bool} → passes ≡ totalRow totals own .condition → passes ≡ true → Forecasts r cells ups downs t totals out out (F.Refused (refused 19 0))
+      total-refused q holds = forecast-refused (refused 19 0) (rw holds at (sym (decided q))) (λ z. absurd (omega arith))
+
+      -- accepted: the run's sums and cells, and the totals with the sums in them
+      pub forecast-done : Fits totals own → Forecasts r cells ups downs t totals out next (F.Done (carriedOn totals own))
+      unfolding forecastAnswer forecastCells forecastMeaning
+      forecast-done f =
+          let k = accepts (forecast-call r cells ups downs t (length out) totals) (ap (λ (f : Refusal). f .number) (decided (sym (fits-pass totals own f)))) in
+          record {
+            answer = rw (k .yes) (ap (λ (o : Totals). F.Done (carriedOn totals o)) sums);
+            means = rw (k .yes) (λ i. record {
+              number = sym (k .nothing) i .number;
+              place = sym (k .nothing) i .place;
+              entered = ran .entered i;
+              left = ran .left i;
+              total-entered = totals .entered + ran .entered i;
+              total-left = totals .left + ran .left i;
+            });
+            output = rw (k .yes) (ran .cells);
+            judged = k .judged;
+            demand3 = λ d q. subst (λ (x : Record). Demand3 r cells ups downs t next (x .own .entered) (x .own .left)) (same-record q) (demand3 c next own ran);
+            by-faces = λ d q. subst (λ (x : Record). RunByFaces r ups downs cells next (x .own .entered) (x .own .left)) (same-record q) (by-faces c next own ran);
+            carried = λ d q. subst (λ (x : Record). x .totals ≡ increased totals (x .own)) (same-record q) refl;
+          }
+
+      -- neither sum is more than jam's ceiling for each step: where so much fits, the sums do
+      pub most-fits : Fits totals (record { entered = t * jamCeiling; left = t * jamCeiling }) → Fits totals own
+      most-fits f =
+          let small = rw (c .ups-long) at (round-small r (c .accepted) ups downs cells (c .ups-below) (c .cells-below)) in
+          record {
+            entered-fits = omega (arith, f .entered-fits, small .0, ran .entered);
+            left-fits = omega (arith, f .left-fits, small .1, ran .left);
+          }
 
 same-settled : {d e : Settled} → _≡_ {A = SettleAnswer} (S.Done d) (S.Done e) → d ≡ e
 same-settled q = cc

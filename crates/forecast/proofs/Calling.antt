@@ -2,8 +2,10 @@
 use mathlib.Core.Path.{_≡_, _∙_, sym, ap}
 use mathlib.Core.List.{List}
 use Prim.Native.Nat.{ℕ, _≤_, _<_}
+use native.Mathlib.Nat.{le-trans}
 use native.Mathlib.Omega.{arith}
 use lib.ListN.{length}
+use Rattle.road.specs.Ceilings.{jamCeiling}
 use Rattle.road.specs.Judgement.{Accepted}
 use Rattle.road.specs.declared.Road.{Road}
 use Rattle.flux.specs.Pace.{paceOf}
@@ -12,11 +14,14 @@ use Rattle.scheme.specs.Sums.{Below}
 use Rattle.scheme.specs.Calls.{Ready, ReadyToRun, Ran, SettledTo}
 use Rattle.scheme.specs.declared.many_steps.Totals.{Totals}
 use Rattle.scheme.specs.declared.settling.Settled.{Settled}
-use Rattle.forecast.specs.declared.forecasting.ForecastAnswer.the-variants as F
 use Rattle.forecast.specs.declared.settling.SettleAnswer.the-variants as S
-use Rattle.forecast.specs.Forecast.{forecastRefusal, Checked, Forecasts}
+use Rattle.forecast.specs.Forecast.{InputChecked}
 use Rattle.forecast.specs.Settle.{settleRefusal, SettleChecked, Settles}
-use Rattle.forecast.proofs.Answers.{done, settle-done}
+use Rattle.forecast.proofs.Answers.{settle-done}
+
+-- densities of an accepted road are within the ceiling of jam
+pub in-range : {r : Road} (cells : List ℕ) → Accepted r → Below (r .jam) cells → Below jamCeiling cells
+in-range cells ok below i = le-trans (below i) (ok .jam-high)
 
 module _ (r : Road) (p : Pace) (made : p ≡ paceOf r) where
   -- a pace keeps its road
@@ -36,7 +41,7 @@ module _ (r : Road) (p : Pace) (made : p ≡ paceOf r) where
     }
 
     -- what the run asks, of a checked input
-    pub run-asks : (ups downs : List ℕ) (t out : ℕ) → Checked r cells ups downs t out
+    pub run-asks : (ups downs : List ℕ) (t out : ℕ) → InputChecked r cells ups downs t out
         → ReadyToRun p xs ups downs
     run-asks ups downs t out c = record {
       each = λ k. ready (c .accepted) (c .cells-low) (c .cells-below) (c .ups-below k) (c .downs-below k);
@@ -44,10 +49,9 @@ module _ (r : Road) (p : Pace) (made : p ≡ paceOf r) where
       short = let u = c .ups-long in let h = c .horizon-high in omega arith;
     }
 
-    -- what it hands back, as the forecast's promise
-    pub run-gives : (ups downs : List ℕ) (t : ℕ) (out : List ℕ) → forecastRefusal r cells ups downs t (length out) .number ≡ 0
-        → (next : List ℕ) (d : Totals) → Ran (p .road) ups downs xs next d → Forecasts r cells ups downs t out next (F.Done d)
-    run-gives ups downs t out e next d ran = done r cells ups downs t out e next d (rw (road-of, copied) at ran)
+    -- what it hands back, of the road and the cells
+    pub run-gives : (ups downs : List ℕ) {next : List ℕ} {own : Totals} → Ran (p .road) ups downs xs next own → Ran r ups downs cells next own
+    run-gives ups downs ran = rw (road-of, copied) at ran
 
     pub settle-asks : (up down t out : ℕ) → SettleChecked r cells up down t out
         → Ready p xs up down

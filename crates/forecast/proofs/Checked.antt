@@ -1,58 +1,47 @@
 -- Which inputs the two tables refuse nothing of, and what a table's first part leaves to know.
-use mathlib.Core.Path.{_≡_, refl}
+use mathlib.Core.Path.{_≡_, _∙_, refl, sym, subst}
+use mathlib.Core.Bool.{Bool, false}
 use mathlib.Core.List.{List, [], _∷_}
 use Prim.Native.Nat.{ℕ, _≤_}
 use native.Mathlib.Omega.{arith}
 use lib.ListN.{length}
+use borrow.Author.Tests.{ltb-false, le-ltb}
+use Rattle.choice.specs.Choice.{pick}
+use Rattle.choice.proofs.Choice.{or-left, or-right, neither}
+use Rattle.road.specs.Table.{refused, passed, orIf}
 use Rattle.road.specs.Ceilings.{cellsCeiling, horizonCeiling}
 use Rattle.road.specs.declared.Road.{Road}
 use Rattle.road.specs.declared.refusal.Refusal.{Refusal}
-use Rattle.road.proofs.Table.{_&_, none-holds}
+use Rattle.road.proofs.Table.{Passing, _&_, conditionOf, none-holds, all-pass, next-row, judge-append}
 use Rattle.road.proofs.Acceptance.{accepted-by, road-passes}
-use Rattle.road.proofs.Parts.{part-stands}
+use Rattle.road.proofs.Parts.{part-stands, part-clear, parts-pass}
 use Rattle.road.proofs.Calls.{Call}
 use Rattle.checks.specs.Rows.{valueRows, pairRows}
 use Rattle.checks.specs.Places.{Placed}
 use Rattle.checks.proofs.First.{all-below, none-above}
 use Rattle.checks.proofs.Rows.{cells-low, cells-high, cells-pass, horizon-high, horizon-passes, ups-long, downs-long, ends-pass, output-long, output-passes, pair-passes}
 use Rattle.checks.proofs.Places.{values-placed}
-use Rattle.forecast.specs.Forecast.{shapeRows, shapeRefusal, forecastRows, forecastRefusal, Checked}
+use Rattle.scheme.specs.declared.many_steps.Totals.{Totals}
+use Rattle.forecast.specs.Forecast.{shapeRows, shapeRefusal, inputRows, inputRefusal, InputChecked, ownOf, largest, passesLargest, totalRow, totalRows, forecastRows, forecastRefusal, Fits, Checked}
 use Rattle.forecast.specs.Settle.{settleShapeRows, settleShapeRefusal, settleRows, settleRefusal, SettleChecked}
 
-module _ (r : Road) (cells ups downs : List ℕ) (t out : ℕ) where
-  -- the forecast's table refuses nothing exactly of a checked input
-  pub forecast-call : Call (forecastRows r cells ups downs t out) (Checked r cells ups downs t out) (Placed r cells ups downs) (forecastRefusal r cells ups downs t out)
-  unfolding forecastRefusal
-  forecast-call = record {
-    is = refl;
-    distinct = tt;
-    placed = λ at. values-placed r cells ups downs _ (at 9 tt) (at 10 tt) (at 11 tt);
-    of = λ no. record {
-      accepted = accepted-by r (no 1) (no 2) (no 3) (no 4);
-      cells-low = cells-low (length cells) (no 5);
-      cells-high = cells-high (length cells) (no 5);
-      horizon-high = horizon-high t (no 6);
-      ups-long = ups-long t (length ups) (length downs) (no 7);
-      downs-long = downs-long t (length ups) (length downs) (no 7);
-      output-long = output-long (length cells) out (no 8);
-      cells-below = all-below (r .jam) cells (no 9);
-      ups-below = all-below (r .jam) ups (no 10);
-      downs-below = all-below (r .jam) downs (no 11);
-    };
-    passes = λ c. road-passes r (c .accepted)
-        (cells-pass (length cells) (c .cells-low) (c .cells-high)
-        & horizon-passes t (c .horizon-high)
-        & ends-pass t (length ups) (length downs) (c .ups-long) (c .downs-long)
-        & output-passes (length cells) out (c .output-long)
-        & none-above (r .jam) cells (c .cells-below)
-        & none-above (r .jam) ups (c .ups-below)
-        & none-above (r .jam) downs (c .downs-below)
-        & tt);
+-- 19 does not hold exactly where both totals fit
+module _ (totals own : Totals) where
+  pub fits-by : totalRow totals own .condition ≡ false → Fits totals own
+  fits-by e = record {
+    entered-fits = ltb-false largest _ (or-left (passesLargest (totals .entered) (own .entered)) (passesLargest (totals .left) (own .left)) e);
+    left-fits = ltb-false largest _ (or-right (passesLargest (totals .entered) (own .entered)) (passesLargest (totals .left) (own .left)) e);
   }
 
+  pub fits-pass : Fits totals own → totalRow totals own .condition ≡ false
+  fits-pass f =
+      neither (passesLargest (totals .entered) (own .entered)) (passesLargest (totals .left) (own .left))
+      (le-ltb largest _ (f .entered-fits)) (le-ltb largest _ (f .left-fits))
+
+module _ (r : Road) (cells ups downs : List ℕ) (t out : ℕ) where
   -- a refusal of the shape stands
-  pub shape-stands : (f : Refusal) → f ≡ shapeRefusal r (length cells) (length ups) (length downs) t out → (f .number ≡ 0 → ⊥) → f ≡ forecastRefusal r cells ups downs t out
-  unfolding shapeRefusal forecastRefusal
+  pub shape-stands : (f : Refusal) → f ≡ shapeRefusal r (length cells) (length ups) (length downs) t out → (f .number ≡ 0 → ⊥) → f ≡ inputRefusal r cells ups downs t out
+  unfolding shapeRefusal inputRefusal
   shape-stands = part-stands (shapeRows r (length cells) (length ups) (length downs) t out) (valueRows r cells ups downs)
 
   -- the lists are short once the shape is right
@@ -65,6 +54,69 @@ module _ (r : Road) (cells ups downs : List ℕ) (t out : ℕ) where
       let up = ups-long t (length ups) (length downs) (no 7) in
       let down = downs-long t (length ups) (length downs) (no 7) in
       (cells-high (length cells) (no 5), (omega arith, omega arith))
+
+  -- rows 1 to 11 hold of nothing exactly where the input is checked
+  input-of : ((n : ℕ) → conditionOf n (inputRows r cells ups downs t out) ≡ false) → InputChecked r cells ups downs t out
+  input-of none = record {
+    accepted = accepted-by r (none 1) (none 2) (none 3) (none 4);
+    cells-low = cells-low (length cells) (none 5);
+    cells-high = cells-high (length cells) (none 5);
+    horizon-high = horizon-high t (none 6);
+    ups-long = ups-long t (length ups) (length downs) (none 7);
+    downs-long = downs-long t (length ups) (length downs) (none 7);
+    output-long = output-long (length cells) out (none 8);
+    cells-below = all-below (r .jam) cells (none 9);
+    ups-below = all-below (r .jam) ups (none 10);
+    downs-below = all-below (r .jam) downs (none 11);
+  }
+
+  input-passes : InputChecked r cells ups downs t out → Passing (inputRows r cells ups downs t out)
+  input-passes c = road-passes r (c .accepted)
+      (cells-pass (length cells) (c .cells-low) (c .cells-high)
+      & horizon-passes t (c .horizon-high)
+      & ends-pass t (length ups) (length downs) (c .ups-long) (c .downs-long)
+      & output-passes (length cells) out (c .output-long)
+      & none-above (r .jam) cells (c .cells-below)
+      & none-above (r .jam) ups (c .ups-below)
+      & none-above (r .jam) downs (c .downs-below)
+      & tt)
+
+  pub input-checked : inputRefusal r cells ups downs t out .number ≡ 0 → InputChecked r cells ups downs t out
+  unfolding inputRefusal
+  input-checked e = input-of (none-holds (inputRows r cells ups downs t out) tt e)
+
+  -- checked with one output is checked with another that is as long
+  pub with-output : InputChecked r cells ups downs t out → (other : ℕ) → other ≡ length cells → InputChecked r cells ups downs t other
+  with-output c other e = subst (InputChecked r cells ups downs t) (c .output-long ∙ sym e) c
+
+  module _ (totals : Totals) where
+    -- a refusal by rows 1 to 11 stands
+    pub input-stands : (f : Refusal) → f ≡ inputRefusal r cells ups downs t out → (f .number ≡ 0 → ⊥) → f ≡ forecastRefusal r cells ups downs t totals out
+    unfolding inputRefusal forecastRefusal
+    input-stands = part-stands (inputRows r cells ups downs t out) (totalRows r cells ups downs totals)
+
+    -- the whole table refuses nothing exactly of a checked input with totals that fit
+    pub forecast-call : Call (forecastRows r cells ups downs t totals out) (Checked r cells ups downs t totals out) (Placed r cells ups downs) (forecastRefusal r cells ups downs t totals out)
+    unfolding forecastRefusal
+    forecast-call = record {
+      is = refl;
+      distinct = tt;
+      placed = λ at. values-placed r cells ups downs _ (at 9 tt) (at 10 tt) (at 11 tt);
+      of = λ no. record {
+        input = input-of (λ n. part-clear (inputRows r cells ups downs t out) (totalRows r cells ups downs totals) n (no n));
+        fits = fits-by totals (ownOf r cells ups downs) (no 19);
+      };
+      passes = λ c. parts-pass (inputRows r cells ups downs t out) (totalRows r cells ups downs totals)
+          (input-passes (c .input)) (fits-pass totals (ownOf r cells ups downs) (c .fits) & tt);
+    }
+
+    -- where they refuse nothing, 19 decides
+    pub total-decides : InputChecked r cells ups downs t out → {passes : Bool} → passes ≡ totalRow totals (ownOf r cells ups downs) .condition
+        → forecastRefusal r cells ups downs t totals out ≡ pick passes (refused 19 0) passed
+    unfolding forecastRefusal orIf
+    total-decides c q =
+        judge-append passed (inputRows r cells ups downs t out) (totalRows r cells ups downs totals)
+        ∙ next-row 19 (all-pass (inputRows r cells ups downs t out) (input-passes c)) (sym q) refl
 
 module _ (r : Road) (cells : List ℕ) (up down t out : ℕ) where
   pub settle-call : Call (settleRows r cells up down t out) (SettleChecked r cells up down t out) (Placed r cells (up ∷ []) (down ∷ [])) (settleRefusal r cells up down t out)

@@ -1,90 +1,101 @@
--- For ever: every chain of calls that pass their checks is Done throughout, in range, and balanced from first to last.
-use mathlib.Core.Path.{_≡_, _∙_, refl, sym, ap}
+-- For ever: every chain of calls that pass their checks is Done throughout, in range, and balanced from first to last, as long as the totals surely have room.
+use mathlib.Core.Path.{_≡_, _∙_, refl, sym, ap, subst}
 use mathlib.Core.Bool.{true}
 use mathlib.Core.List.{List, [], _∷_}
-use Prim.Native.Nat.{ℕ, _+_, _≤_}
+use Prim.Native.Nat.{ℕ, _+_, _*_, _≤_}
 use native.Mathlib.Omega.{arith}
 use lib.Dec.{eqb}
 use lib.ListN.{length}
-use Rattle.road.specs.Ceilings.{cellsCeiling}
+use Rattle.road.specs.Ceilings.{cellsCeiling, jamCeiling}
 use Rattle.road.specs.Judgement.{Accepted}
 use Rattle.road.specs.declared.Road.{Road}
 use Rattle.road.proofs.Calls.{accepts-checked}
 use Rattle.scheme.specs.Sums.{sum, Below}
-use Rattle.scheme.specs.Rounded.{roundRun, entered, left}
+use Rattle.scheme.specs.Rounded.{entered, left}
 use Rattle.scheme.specs.Settling.{settles, settleSteps, settleCells}
-use Rattle.scheme.proofs.Promises.{roundRun-length, round-range, round-balance, settle-range, settle-length, after-balance}
-use Rattle.forecast.specs.declared.forecasting.ForecastAnswer.{ForecastAnswer}
-use Rattle.forecast.specs.declared.forecasting.ForecastAnswer.the-variants as F
+use Rattle.scheme.proofs.Promises.{roundRun-length, round-range, round-balance, round-small, settle-range, settle-length, after-balance}
 use Rattle.forecast.specs.declared.settling.SettleAnswer.{SettleAnswer}
 use Rattle.forecast.specs.declared.settling.SettleAnswer.the-variants as S
-use Rattle.forecast.specs.Forecast.{forecastRefusal, forecastAnswer, forecastCells, meaning, Checked}
+use Rattle.forecast.specs.Forecast.{forecastRefusal, Checked}
 use Rattle.forecast.specs.Settle.{settleRefusal, settleAnswer, settleOutput, meaning as settle-meaning, SettleChecked}
-use Rattle.forecast.specs.Chain.{ForecastCall, SettleCall, Call, forecast, settle, ForecastPasses, SettlePasses, Passes, AllPass, answerTo, settleAnswerTo, IsDone, cellsAfter, stepsReported, enteredIn, leftIn, lastCells, allEntered, allLeft, ForEver}
+use Rattle.forecast.specs.Chain.{Call, Site, Commissioned}
+use Rattle.forecast.specs.ForEver.{SettleCall, AnyCall, forecast, settle, ForecastPasses, SettlePasses, Passes, AllPass, forecastSteps, lifetime, settleAnswerTo, IsDone, siteAfter, stepsReported, enteredIn, leftIn, lastCells, enteredInAll, leftInAll, ForEver}
 use Rattle.forecast.proofs.Checked.{forecast-call, settle-call}
+use Rattle.forecast.proofs.Chain.{answers, feeds}
 
 -- the state of the chain: cells that every call accepts
-record Feeds (r : Road) (n : ℕ) (cells : List ℕ) : Type 0 where
+record Feeds (r : Road) (n : ℕ) (s : Site) : Type 0 where
   accepted : Accepted r
-  long : length cells ≡ n
+  long : length (s .cells) ≡ n
   low : 1 ≤ n
   high : n ≤ cellsCeiling
-  below : Below (r .jam) cells
+  below : Below (r .jam) (s .cells)
 
--- what one call of the chain keeps
-record Keeps (r : Road) (n : ℕ) (cells : List ℕ) (c : Call) : Type 0 where
-  done : IsDone r cells c
-  feeds : Feeds r n (cellsAfter r cells c)
-  balanced : sum cells + enteredIn r cells c ≡ sum (cellsAfter r cells c) + leftIn r cells c
+-- both totals are small after so many steps of forecasts
+record Small (steps : ℕ) (s : Site) : Type 0 where
+  entered : s .totals .entered ≤ steps * jamCeiling
+  left : s .totals .left ≤ steps * jamCeiling
 
--- a forecast that passes its checks, by its definition
-module _ (r : Road) (n : ℕ) (cells : List ℕ) (c : ForecastCall) (f : Feeds r n cells) (p : ForecastPasses r n c) where
-  checked : Checked r cells (c .ups) (c .downs) (c .horizon) (length (c .out))
+-- what a call of the chain keeps, from the site before it to the one after it, with what entered and left
+record Keeps (r : Road) (n steps : ℕ) (s after : Site) (ins outs : ℕ) : Type 0 where
+  feeds : Feeds r n after
+  small : Small steps after
+  balanced : sum (s .cells) + ins ≡ sum (after .cells) + outs
+
+abbrev Made : Road → ℕ → ℕ → Site → AnyCall → Type 0
+Made r n steps s c = IsDone r s c × Keeps r n (steps + forecastSteps (c ∷ [])) s (siteAfter r s c) (enteredIn r s c) (leftIn r s c)
+
+-- a forecast that passes its checks, within the lifetime
+module _ (n steps : ℕ) (s : Site) (c : Call) (f : Feeds (c .road) n s) (small : Small steps s) (p : ForecastPasses (c .road) n c)
+    (within : steps + c .horizon ≤ lifetime) where
+  moved : (entered (c .road) (c .ups) (c .downs) (s .cells) ≤ c .horizon * jamCeiling) × (left (c .road) (c .ups) (c .downs) (s .cells) ≤ c .horizon * jamCeiling)
+  moved = rw (p .ups-long) at (round-small (c .road) (f .accepted) (c .ups) (c .downs) (s .cells) (p .ups-below) (f .below))
+
+  checked : Checked (c .road) (s .cells) (c .ups) (c .downs) (c .horizon) (s .totals) (length (c .out))
   checked = record {
-    accepted = f .accepted;
-    cells-low = rw (f .long) (f .low);
-    cells-high = rw (f .long) (f .high);
-    horizon-high = p .horizon-high;
-    ups-long = p .ups-long;
-    downs-long = p .downs-long;
-    output-long = p .output-long ∙ sym (f .long);
-    cells-below = f .below;
-    ups-below = p .ups-below;
-    downs-below = p .downs-below;
-  }
-
-  accepts : eqb (forecastRefusal r cells (c .ups) (c .downs) (c .horizon) (length (c .out)) .number) 0 ≡ true
-  accepts = accepts-checked (forecast-call r cells (c .ups) (c .downs) (c .horizon) (length (c .out))) checked
-
-  answers : answerTo r cells c ≡ F.Done (record { entered = entered r (c .ups) (c .downs) cells; left = left r (c .ups) (c .downs) cells })
-  unfolding forecastAnswer
-  answers = rw accepts refl
-
-  leaves : cellsAfter r cells (forecast c) ≡ roundRun r (c .ups) (c .downs) cells
-  unfolding forecastCells
-  leaves = rw accepts refl
-
-  forecast-keeps : Keeps r n cells (forecast c)
-  forecast-keeps = record {
-    done = (_, answers);
-    feeds = rw leaves record {
+    input = record {
       accepted = f .accepted;
-      long = roundRun-length r (c .ups) (c .downs) cells ∙ f .long;
-      low = f .low;
-      high = f .high;
-      below = round-range r (f .accepted) (c .ups) (c .downs) cells (f .below);
+      cells-low = rw (f .long) (f .low);
+      cells-high = rw (f .long) (f .high);
+      horizon-high = p .horizon-high;
+      ups-long = p .ups-long;
+      downs-long = p .downs-long;
+      output-long = p .output-long ∙ sym (f .long);
+      cells-below = f .below;
+      ups-below = p .ups-below;
+      downs-below = p .downs-below;
     };
-    balanced =
-        let one = round-balance r (f .accepted) (c .ups) (c .downs) cells in
-        let sums = ap sum leaves in
-        let ins = ap (λ (a : ForecastAnswer). meaning a .entered) answers in
-        let outs = ap (λ (a : ForecastAnswer). meaning a .left) answers in
-        omega arith;
+    fits = record {
+      entered-fits = omega (arith, within, moved .0, small .entered);
+      left-fits = omega (arith, within, moved .1, small .left);
+    };
   }
 
--- a settling run likewise
-module _ (r : Road) (n : ℕ) (cells : List ℕ) (c : SettleCall) (f : Feeds r n cells) (p : SettlePasses r n c) where
-  settle-checked : SettleChecked r cells (c .up) (c .down) (c .horizon) (length (c .out))
+  accepts : eqb (forecastRefusal (c .road) (s .cells) (c .ups) (c .downs) (c .horizon) (s .totals) (length (c .out)) .number) 0 ≡ true
+  accepts = accepts-checked (forecast-call (c .road) (s .cells) (c .ups) (c .downs) (c .horizon) (length (c .out)) (s .totals)) checked
+
+  forecast-made : Made (c .road) n steps s (forecast c)
+  forecast-made = (
+    (_, answers s c accepts),
+    rw (feeds s c accepts, answers s c accepts, enteredIn, leftIn) record {
+      feeds = record {
+        accepted = f .accepted;
+        long = roundRun-length (c .road) (c .ups) (c .downs) (s .cells) ∙ f .long;
+        low = f .low;
+        high = f .high;
+        below = round-range (c .road) (f .accepted) (c .ups) (c .downs) (s .cells) (f .below);
+      };
+      small = record {
+        entered = omega (arith, moved .0, small .entered);
+        left = omega (arith, moved .1, small .left);
+      };
+      balanced = round-balance (c .road) (f .accepted) (c .ups) (c .downs) (s .cells);
+    },
+  )
+
+-- a settling run likewise, which leaves the totals alone
+module _ (r : Road) (n steps : ℕ) (s : Site) (c : SettleCall) (f : Feeds r n s) (small : Small steps s) (p : SettlePasses r n c) where
+  settle-checked : SettleChecked r (s .cells) (c .up) (c .down) (c .horizon) (length (c .out))
   settle-checked = record {
     accepted = f .accepted;
     cells-low = rw (f .long) (f .low);
@@ -96,52 +107,65 @@ module _ (r : Road) (n : ℕ) (cells : List ℕ) (c : SettleCall) (f : Feeds r n
     down-below = p .down-below;
   }
 
-  settle-accepts : eqb (settleRefusal r cells (c .up) (c .down) (c .horizon) (length (c .out)) .number) 0 ≡ true
-  settle-accepts = accepts-checked (settle-call r cells (c .up) (c .down) (c .horizon) (length (c .out))) settle-checked
+  settle-accepts : eqb (settleRefusal r (s .cells) (c .up) (c .down) (c .horizon) (length (c .out)) .number) 0 ≡ true
+  settle-accepts = accepts-checked (settle-call r (s .cells) (c .up) (c .down) (c .horizon) (length (c .out))) settle-checked
 
-  settle-answers : settleAnswerTo r cells c ≡ S.Done (record { settled = settles r (c .up) (c .down) (c .horizon) cells; steps = settleSteps r (c .up) (c .down) (c .horizon) cells })
+  settle-answers : settleAnswerTo r s c ≡ S.Done (record { settled = settles r (c .up) (c .down) (c .horizon) (s .cells); steps = settleSteps r (c .up) (c .down) (c .horizon) (s .cells) })
   unfolding settleAnswer
   settle-answers = rw settle-accepts refl
 
-  reports : stepsReported r cells c ≡ settleSteps r (c .up) (c .down) (c .horizon) cells
+  reports : stepsReported r s c ≡ settleSteps r (c .up) (c .down) (c .horizon) (s .cells)
   reports = ap (λ (a : SettleAnswer). settle-meaning a .steps) settle-answers
 
-  settle-leaves : cellsAfter r cells (settle c) ≡ settleCells r (c .up) (c .down) (c .horizon) cells
-  unfolding settleOutput
+  settle-leaves : siteAfter r s (settle c) ≡ record { cells = settleCells r (c .up) (c .down) (c .horizon) (s .cells); totals = s .totals }
+  unfolding settleAnswer settleOutput
   settle-leaves = rw settle-accepts refl
 
-  settle-keeps : Keeps r n cells (settle c)
+  settle-made : Made r n steps s (settle c)
   unfolding settleCells
-  settle-keeps = record {
-    done = (_, settle-answers);
-    feeds = rw settle-leaves record {
-      accepted = f .accepted;
-      long = settle-length r (c .up) (c .down) (c .horizon) cells ∙ f .long;
-      low = f .low;
-      high = f .high;
-      below = settle-range r (f .accepted) (c .up) (c .down) (c .horizon) cells (f .below);
-    };
-    balanced = rw (reports, settle-leaves) (after-balance r (f .accepted) (c .up) (c .down) (settleSteps r (c .up) (c .down) (c .horizon) cells) cells);
-  }
+  settle-made = (
+    (_, settle-answers),
+    rw (settle-leaves, reports) record {
+      feeds = record {
+        accepted = f .accepted;
+        long = settle-length r (c .up) (c .down) (c .horizon) (s .cells) ∙ f .long;
+        low = f .low;
+        high = f .high;
+        below = settle-range r (f .accepted) (c .up) (c .down) (c .horizon) (s .cells) (f .below);
+      };
+      small = record { entered = omega (arith, small .entered); left = omega (arith, small .left) };
+      balanced = after-balance r (f .accepted) (c .up) (c .down) (settleSteps r (c .up) (c .down) (c .horizon) (s .cells)) (s .cells);
+    },
+  )
 
-keeps : (r : Road) (n : ℕ) (cells : List ℕ) (c : Call) → Feeds r n cells → Passes r n c → Keeps r n cells c
-keeps r n cells (forecast c) = forecast-keeps r n cells c
-keeps r n cells (settle c) = settle-keeps r n cells c
+made : (r : Road) (n steps : ℕ) (s : Site) (c : AnyCall) → Feeds r n s → Small steps s → Passes r n c → steps + forecastSteps (c ∷ []) ≤ lifetime → Made r n steps s c
+made r n steps s (forecast c) f small p within =
+    subst (λ (q : Road). Feeds q n s → ForecastPasses q n c → Made q n steps s (forecast c)) (p .same-road)
+    (λ f p. forecast-made n steps s c f small p (omega (arith, within))) f p
+made r n steps s (settle c) f small p within = settle-made r n steps s c f small p
 
-chain : (r : Road) (n : ℕ) (cells : List ℕ) (calls : List Call) → Feeds r n cells → AllPass r n calls → ForEver r cells calls
-unfolding lastCells allEntered allLeft
-chain r n cells [] f ps = record { done = tt; within = tt; balanced = refl }
-chain r n cells (c ∷ cs) f (p, ps) =
-    let one = keeps r n cells c f p in
-    let rest = chain r n (cellsAfter r cells c) cs (one .feeds) ps in
+-- a call's own steps and those of the rest
+steps-of : (c : AnyCall) (cs : List AnyCall) → forecastSteps (c ∷ cs) ≡ forecastSteps (c ∷ []) + forecastSteps cs
+steps-of (forecast c) cs = omega arith
+steps-of (settle c) cs = omega arith
+
+chain : (r : Road) (n steps : ℕ) (s : Site) (calls : List AnyCall) → Feeds r n s → Small steps s → AllPass r n calls → steps + forecastSteps calls ≤ lifetime → ForEver r s calls
+unfolding lastCells enteredInAll leftInAll
+chain r n steps s [] f small ps within = record { done = tt; within = tt; balanced = refl }
+chain r n steps s (c ∷ cs) f small (p, ps) within =
+    let split = steps-of c cs in
+    let (is-done, one) = made r n steps s c f small p (omega arith) in
+    let rest = chain r n (steps + forecastSteps (c ∷ [])) (siteAfter r s c) cs (one .feeds) (one .small) ps (omega arith) in
     record {
-      done = (one .done, rest .done);
+      done = (is-done, rest .done);
       within = (one .feeds .long ∙ sym (f .long), one .feeds .below, rest .within);
       balanced = let now = one .balanced in let then = rest .balanced in omega arith;
     }
 
--- for every list of calls on one accepted road that pass their checks, each fed the last one's cells
-pub for-ever : (r : Road) → Accepted r → (cells : List ℕ) → 1 ≤ length cells → length cells ≤ cellsCeiling → Below (r .jam) cells
-    → (calls : List Call) → AllPass r (length cells) calls → ForEver r cells calls
-for-ever r ok cells low high below calls ps =
-    chain r (length cells) cells calls (record { accepted = ok; long = refl; low = low; high = high; below = below }) ps
+-- for every list of calls on one accepted road that pass their checks, each fed the last one's cells and each forecast the last forecast's totals, both 0 at first,
+-- as long as the forecasts have no more steps together than the totals have room for
+pub for-ever : (r : Road) → Accepted r → (s : Site) → Commissioned s → 1 ≤ length (s .cells) → length (s .cells) ≤ cellsCeiling → Below (r .jam) (s .cells)
+    → (calls : List AnyCall) → AllPass r (length (s .cells)) calls → forecastSteps calls ≤ lifetime → ForEver r s calls
+for-ever r ok s (none-entered, none-left) low high below calls ps within =
+    chain r (length (s .cells)) 0 s calls (record { accepted = ok; long = refl; low = low; high = high; below = below })
+    (record { entered = omega (arith, none-entered); left = omega (arith, none-left) }) ps (omega (arith, within))

@@ -3,5 +3,6 @@ pub mod Checked
 pub mod Answers
 pub mod Copied
 pub mod Calling
+pub mod Chain
 pub mod ForEver
 pub mod NoSteps

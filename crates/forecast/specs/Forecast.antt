@@ -1,11 +1,12 @@
--- The forecast: its rows of the refusal table, its answer, its output, and demand 3.
+-- The forecast: its rows of the refusal table, its answer, its output, the totals since commissioning, and demand 3.
 use mathlib.Core.Path.{_≡_}
+use mathlib.Core.Bool.{Bool}
 use mathlib.Core.List.{List, [], _∷_, _++_}
 use Prim.Native.Nat.{ℕ, _+_, _-_, _*_, _^_, _≤_}
-use lib.Dec.{eqb}
+use lib.Dec.{eqb, ltb}
 use lib.ListN.{length}
-use Rattle.choice.specs.Choice.{pick}
-use Rattle.road.specs.Table.{Row, judge, refused, Judged}
+use Rattle.choice.specs.Choice.{pick, or}
+use Rattle.road.specs.Table.{Row, row, judge, refused, Judged}
 use Rattle.road.specs.Ceilings.{cellsCeiling, horizonCeiling}
 use Rattle.road.specs.Judgement.{roadRows, Accepted}
 use Rattle.road.specs.declared.Road.{Road}
@@ -17,10 +18,11 @@ use Rattle.scheme.specs.Rounded.{roundRun, entered, left}
 use Rattle.scheme.specs.ByFaces.{RunByFaces, ExactRunByFaces}
 use Rattle.scheme.specs.Exact.{exactRun}
 use Rattle.scheme.specs.declared.many_steps.Totals.{Totals}
+use Rattle.forecast.specs.declared.forecasting.Record.{Record}
 use Rattle.forecast.specs.declared.forecasting.ForecastAnswer.{ForecastAnswer}
 use Rattle.forecast.specs.declared.forecasting.ForecastAnswer.the-variants.{Done, Refused}
 
--- rows 5 to 8, over the numbers of cells, of upstream and downstream ends, and the output's length
+-- rows 5 to 8, over the numbers of cells, of upstream and downstream ends, the horizon, and the output's length
 abbrev pub listRows : ℕ → ℕ → ℕ → ℕ → ℕ → List Row
 listRows cells ups downs t out = cellsRow cells ∷ horizonRow t ∷ endsRow t ups downs ∷ outputRow cells out ∷ []
 
@@ -32,46 +34,93 @@ unfoldable pub shapeRefusal : Road → ℕ → ℕ → ℕ → ℕ → ℕ → R
 shapeRefusal r cells ups downs t out = judge (shapeRows r cells ups downs t out)
 
 -- "forecast 1–11"
-abbrev pub forecastRows : Road → List ℕ → List ℕ → List ℕ → ℕ → ℕ → List Row
-forecastRows r cells ups downs t out = shapeRows r (length cells) (length ups) (length downs) t out ++ valueRows r cells ups downs
+abbrev pub inputRows : Road → List ℕ → List ℕ → List ℕ → ℕ → ℕ → List Row
+inputRows r cells ups downs t out = shapeRows r (length cells) (length ups) (length downs) t out ++ valueRows r cells ups downs
 
-unfoldable pub forecastRefusal : Road → List ℕ → List ℕ → List ℕ → ℕ → ℕ → Refusal
-forecastRefusal r cells ups downs t out = judge (forecastRows r cells ups downs t out)
+unfoldable pub inputRefusal : Road → List ℕ → List ℕ → List ℕ → ℕ → ℕ → Refusal
+inputRefusal r cells ups downs t out = judge (inputRows r cells ups downs t out)
 
--- the answer: Done with the units entered and left, or the refusal
-unfoldable pub forecastAnswer : Road → List ℕ → List ℕ → List ℕ → ℕ → ℕ → ForecastAnswer
-forecastAnswer r cells ups downs t out =
-    pick (eqb (forecastRefusal r cells ups downs t out .number) 0)
-    (Done (record { entered = entered r ups downs cells; left = left r ups downs cells }))
-    (Refused (forecastRefusal r cells ups downs t out))
+-- "the call's own entered and left" (document 02, E4)
+abbrev pub ownOf : Road → List ℕ → List ℕ → List ℕ → Totals
+ownOf r cells ups downs = record { entered = entered r ups downs cells; left = left r ups downs cells }
+
+-- the totals so far, "increased by the call's own entered and left"
+abbrev pub increased : Totals → Totals → Totals
+increased so-far own = record { entered = so-far .entered + own .entered; left = so-far .left + own .left }
+
+-- "18,446,744,073,709,551,615", the largest total, and "a total that would pass" it: the sum is that of whole numbers, which neither wraps nor stops there
+abbrev pub largest : ℕ
+largest = 18446744073709551615
+
+abbrev pub passesLargest : ℕ → ℕ → Bool
+passesLargest so-far own = ltb largest (so-far + own)
+
+-- 19, of either total
+abbrev pub totalRow : Totals → Totals → Row
+totalRow so-far own = row (or (passesLargest (so-far .entered) (own .entered)) (passesLargest (so-far .left) (own .left))) 19 0
+
+abbrev pub totalRows : Road → List ℕ → List ℕ → List ℕ → Totals → List Row
+totalRows r cells ups downs totals = totalRow totals (ownOf r cells ups downs) ∷ []
+
+-- "forecast 1–11", and 19 "checked last"
+abbrev pub forecastRows : Road → List ℕ → List ℕ → List ℕ → ℕ → Totals → ℕ → List Row
+forecastRows r cells ups downs t totals out = inputRows r cells ups downs t out ++ totalRows r cells ups downs totals
+
+unfoldable pub forecastRefusal : Road → List ℕ → List ℕ → List ℕ → ℕ → Totals → ℕ → Refusal
+forecastRefusal r cells ups downs t totals out = judge (forecastRows r cells ups downs t totals out)
+
+-- what an accepted forecast hands back: the units of its own steps, and the totals increased by them
+abbrev pub carriedOn : Totals → Totals → Record
+carriedOn so-far own = record { own = own; totals = increased so-far own }
+
+abbrev pub recordOf : Road → List ℕ → List ℕ → List ℕ → Totals → Record
+recordOf r cells ups downs totals = carriedOn totals (ownOf r cells ups downs)
+
+-- the answer: Done with that record, or the refusal
+unfoldable pub forecastAnswer : Road → List ℕ → List ℕ → List ℕ → ℕ → Totals → ℕ → ForecastAnswer
+forecastAnswer r cells ups downs t totals out =
+    pick (eqb (forecastRefusal r cells ups downs t totals out .number) 0)
+    (Done (recordOf r cells ups downs totals))
+    (Refused (forecastRefusal r cells ups downs t totals out))
 
 -- the output: the cells after the steps of the end lists, T of them, or its former contents
-unfoldable pub forecastCells : Road → List ℕ → List ℕ → List ℕ → ℕ → List ℕ → List ℕ
-forecastCells r cells ups downs t out =
-    pick (eqb (forecastRefusal r cells ups downs t (length out) .number) 0) (roundRun r ups downs cells) out
+unfoldable pub forecastCells : Road → List ℕ → List ℕ → List ℕ → ℕ → Totals → List ℕ → List ℕ
+forecastCells r cells ups downs t totals out =
+    pick (eqb (forecastRefusal r cells ups downs t totals (length out) .number) 0) (roundRun r ups downs cells) out
 
--- the paper's numbers of an answer: number (0 when accepted), place, entered, left
+-- the paper's numbers of an answer: number (0 when accepted), place, its own entered and left, both totals; refused, 0 stands for what is not given
 pub record Meaning : Type 0 where
   pub number : ℕ
   pub place : ℕ
   pub entered : ℕ
   pub left : ℕ
+  pub total-entered : ℕ
+  pub total-left : ℕ
 
 abbrev pub meaning : ForecastAnswer → Meaning
-meaning (Done t) = record { number = 0; place = 0; entered = t .entered; left = t .left }
-meaning (Refused f) = record { number = f .number; place = f .place; entered = 0; left = 0 }
+meaning (Done d) = record {
+  number = 0;
+  place = 0;
+  entered = d .own .entered;
+  left = d .own .left;
+  total-entered = d .totals .entered;
+  total-left = d .totals .left;
+}
+meaning (Refused f) = record { number = f .number; place = f .place; entered = 0; left = 0; total-entered = 0; total-left = 0 }
 
--- the numbers that document 01 asks for: the table's number and place, and the sums of the steps where nothing is refused
-unfoldable pub forecastMeaning : Road → List ℕ → List ℕ → List ℕ → ℕ → ℕ → Meaning
-forecastMeaning r cells ups downs t out = record {
-  number = forecastRefusal r cells ups downs t out .number;
-  place = forecastRefusal r cells ups downs t out .place;
-  entered = pick (eqb (forecastRefusal r cells ups downs t out .number) 0) (entered r ups downs cells) 0;
-  left = pick (eqb (forecastRefusal r cells ups downs t out .number) 0) (left r ups downs cells) 0;
+-- the numbers that the documents ask for: the table's number and place, and where nothing is refused the sums of the steps and the totals
+unfoldable pub forecastMeaning : Road → List ℕ → List ℕ → List ℕ → ℕ → Totals → ℕ → Meaning
+forecastMeaning r cells ups downs t totals out = record {
+  number = forecastRefusal r cells ups downs t totals out .number;
+  place = forecastRefusal r cells ups downs t totals out .place;
+  entered = pick (eqb (forecastRefusal r cells ups downs t totals out .number) 0) (entered r ups downs cells) 0;
+  left = pick (eqb (forecastRefusal r cells ups downs t totals out .number) 0) (left r ups downs cells) 0;
+  total-entered = pick (eqb (forecastRefusal r cells ups downs t totals out .number) 0) (totals .entered + entered r ups downs cells) 0;
+  total-left = pick (eqb (forecastRefusal r cells ups downs t totals out .number) 0) (totals .left + left r ups downs cells) 0;
 }
 
--- what an input that no row refuses is
-pub record Checked (r : Road) (cells ups downs : List ℕ) (t out : ℕ) : Type 0 where
+-- what an input is that the rows 1 to 11 let through
+pub record InputChecked (r : Road) (cells ups downs : List ℕ) (t out : ℕ) : Type 0 where
   pub accepted : Accepted r
   pub cells-low : 1 ≤ length cells
   pub cells-high : length cells ≤ cellsCeiling
@@ -83,9 +132,20 @@ pub record Checked (r : Road) (cells ups downs : List ℕ) (t out : ℕ) : Type 
   pub ups-below : Below (r .jam) ups
   pub downs-below : Below (r .jam) downs
 
+-- both totals, increased by the own units, are within the largest
+pub record Fits (totals own : Totals) : Type 0 where
+  pub entered-fits : totals .entered + own .entered ≤ largest
+  pub left-fits : totals .left + own .left ≤ largest
+
+-- what an input that no row refuses is
+pub record Checked (r : Road) (cells ups downs : List ℕ) (t : ℕ) (totals : Totals) (out : ℕ) : Type 0 where
+  pub input : InputChecked r cells ups downs t out
+  pub fits : Fits totals (ownOf r cells ups downs)
+
 -- demand 1 of a refusal, of the forecast's rows
-abbrev pub ForecastJudged : Road → List ℕ → List ℕ → List ℕ → ℕ → ℕ → Refusal → Type 0
-ForecastJudged r cells ups downs t out f = Judged (forecastRows r cells ups downs t out) (Checked r cells ups downs t out) (Placed r cells ups downs) f
+abbrev pub ForecastJudged : Road → List ℕ → List ℕ → List ℕ → ℕ → Totals → ℕ → Refusal → Type 0
+ForecastJudged r cells ups downs t totals out f =
+    Judged (forecastRows r cells ups downs t totals out) (Checked r cells ups downs t totals out) (Placed r cells ups downs) f
 
 -- demand 3 of the commission, of what the output holds at exit with the answer's entered and left, on n cells and T steps
 pub record Demand3 (r : Road) (cells ups downs : List ℕ) (t : ℕ) (next : List ℕ) (in-sum out-sum : ℕ) : Type 0 where
@@ -105,12 +165,15 @@ pub record Demand3 (r : Road) (cells ups downs : List ℕ) (t : ℕ) (next : Lis
   -- D times the summed distance from the exact scheme, at scale D to the power T, is at most n × T × (D − 1) at that scale
   pub near : r .divisor * distance (times (r .divisor ^ t) next) (exactRun r 1 ups downs cells) ≤ length cells * t * (r .divisor - 1) * r .divisor ^ t
 
--- what the call promises: a the answer, out what the output held at entry, next what it holds at exit
-pub record Forecasts (r : Road) (cells ups downs : List ℕ) (t : ℕ) (out next : List ℕ) (a : ForecastAnswer) : Type 0 where
-  pub answer : a ≡ forecastAnswer r cells ups downs t (length out)
-  pub means : meaning a ≡ forecastMeaning r cells ups downs t (length out)
-  pub output : next ≡ forecastCells r cells ups downs t out
-  pub judged : ForecastJudged r cells ups downs t (length out) (refused (meaning a .number) (meaning a .place))
-  pub demand3 : (d : Totals) → a ≡ Done d → Demand3 r cells ups downs t next (d .entered) (d .left)
+-- what the call promises: a the answer, totals those so far, out what the output held at entry, next what it holds at exit
+pub record Forecasts (r : Road) (cells ups downs : List ℕ) (t : ℕ) (totals : Totals) (out next : List ℕ) (a : ForecastAnswer) : Type 0 where
+  pub answer : a ≡ forecastAnswer r cells ups downs t totals (length out)
+  pub means : meaning a ≡ forecastMeaning r cells ups downs t totals (length out)
+  pub output : next ≡ forecastCells r cells ups downs t totals out
+  pub judged : ForecastJudged r cells ups downs t totals (length out) (refused (meaning a .number) (meaning a .place))
+  -- "these own counts ... are what demand 3 means"
+  pub demand3 : (d : Record) → a ≡ Done d → Demand3 r cells ups downs t next (d .own .entered) (d .own .left)
   -- demand 2: "a step moves the whole units of each face's flow", told face by face, with entered and left
-  pub by-faces : (d : Totals) → a ≡ Done d → RunByFaces r ups downs cells next (d .entered) (d .left)
+  pub by-faces : (d : Record) → a ≡ Done d → RunByFaces r ups downs cells next (d .own .entered) (d .own .left)
+  -- "hands them back increased by the call's own entered and left"
+  pub carried : (d : Record) → a ≡ Done d → d .totals ≡ increased totals (d .own)

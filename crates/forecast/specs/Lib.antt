@@ -2,3 +2,4 @@
 pub mod Forecast
 pub mod Settle
 pub mod Chain
+pub mod ForEver

@@ -5,6 +5,7 @@ mod forecasting;
 mod settling;
 
 pub use forecasting::ForecastAnswer;
+pub use forecasting::Record;
 pub use forecasting::forecast;
 pub use settling::SettleAnswer;
 pub use settling::settle;

@@ -10,7 +10,7 @@ use request::keys;
 use scenario::Verdict;
 
 // What was expected, in the line of each verdict; behind them what goes with one, and what is said of the actions.
-const FORMS: [u8; 829] = *b"
+const FORMS: [u8; 845] = *b"
 a line of at most 4096 bytes
 a keyword (--help has them)
 whole decimal numbers
@@ -27,6 +27,7 @@ letters W, L, D or codes
 nothing
  (D p q J C)
  (upstream downstream)
+ (entered left)
  (A B, for A / B)
  (left own right)
  after 
@@ -69,37 +70,39 @@ const OF_ROAD: usize = 15;
 
 const OF_PAIR: usize = 16;
 
-const OF_QUOTIENT: usize = 17;
+const OF_TOTALS: usize = 17;
 
-const OF_ESTIMATES: usize = 18;
+const OF_QUOTIENT: usize = 18;
 
-const AFTER: usize = 19;
+const OF_ESTIMATES: usize = 19;
 
-const FOUND: usize = 20;
+const AFTER: usize = 20;
 
-const FOUND_VALUES: usize = 21;
+const FOUND: usize = 21;
 
-const FOUND_BEFORE: usize = 22;
+const FOUND_VALUES: usize = 22;
 
-const STANDARD_INPUT: usize = 23;
+const FOUND_BEFORE: usize = 23;
 
-const ERROR: usize = 24;
+const STANDARD_INPUT: usize = 24;
 
-const EXPECTED: usize = 25;
+const ERROR: usize = 25;
 
-const NEEDS: usize = 26;
+const EXPECTED: usize = 26;
 
-pub const BOTH_ESTIMATES: usize = 27;
+const NEEDS: usize = 27;
 
-pub const NO_ESTIMATES: usize = 28;
+pub const BOTH_ESTIMATES: usize = 28;
 
-pub const MIXED_READING: usize = 29;
+pub const NO_ESTIMATES: usize = 29;
 
-pub const NO_READING: usize = 30;
+pub const MIXED_READING: usize = 30;
 
-pub const NO_ACTION: usize = 31;
+pub const NO_READING: usize = 31;
 
-pub const NO_FORECAST: usize = 32;
+pub const NO_ACTION: usize = 32;
+
+pub const NO_FORECAST: usize = 33;
 
 fn say(page: &mut Page, form: usize, n: u64) {
     say::form(page, &FORMS, form, n, 0, 0, 0);
@@ -140,6 +143,7 @@ fn called(page: &mut Page, key: u8) {
     match key {
         keys::ROAD => say(page, OF_ROAD, 0),
         keys::PAIR => say(page, OF_PAIR, 0),
+        keys::TOTALS => say(page, OF_TOTALS, 0),
         keys::DENSITY | keys::FLOW | keys::SPEED => say(page, OF_QUOTIENT, 0),
         keys::ESTIMATES | keys::BITS => say(page, OF_ESTIMATES, 0),
         _ => {}

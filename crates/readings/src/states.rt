@@ -161,7 +161,9 @@ fn forecast_and_read(
     out: &mut [u32],
 ) -> u8 {
     let steps = numbers::one(text, keys::HORIZON);
-    match forecast::forecast(numbers::road(text), cells, ups, downs, steps, out) {
+    let road = numbers::road(text);
+    let totals = numbers::totals(text);
+    match forecast::forecast(road, cells, ups, downs, steps, totals, out) {
         ForecastAnswer::Done(_) => {
             let s = State {
                 action: keys::READLAST,

@@ -50,6 +50,8 @@ pub const READLAST: u8 = 22;
 
 pub const NEAREST: u8 = 23;
 
+pub const TOTALS: u8 = 24;
+
 // What stands where no key does.
 pub const NONE: u8 = 255;
 

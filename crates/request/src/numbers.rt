@@ -6,6 +6,7 @@ ghost use Rattle.io.specs.Counts.{Counts};
 use super::buffers;
 use super::keys;
 use road::Road;
+use scheme::Totals;
 
 // A judged text has no number that does not fit, so nothing is ever cut here.
 fn narrow(x: u64) -> u32 {
@@ -107,6 +108,16 @@ pub fn pair_of(text: &[u8]) -> Pair {
     Pair {
         up: narrow(v[0]),
         down: narrow(v[1]),
+    }
+}
+
+// The totals so far; both are 0 where the text has none.
+pub fn totals(text: &[u8]) -> Totals {
+    let mut v = [0u64; 2];
+    scenario::values(text, keys::TOTALS, &mut v);
+    Totals {
+        entered: v[0],
+        left: v[1],
     }
 }
 

@@ -40,7 +40,7 @@ impl Input {
 }
 
 // The meaning of each number, in the line of that number; behind them what is said in the place or in front of one.
-const MEANINGS: [u8; 1124] = *b"
+const MEANINGS: [u8; 1184] = *b"
 the divisor D is not from 1 to %
 the speed p or q is not from 1 to D
 the jam density J is not from 2 to %, or the critical density C not from 1 to J - 1
@@ -59,6 +59,7 @@ words are counted for at most % cells
 a station's number is not a number, below 0 or infinite, or a speed beside a flow is 0
 a station's lone speed times D, rounded, is not below p: no single density
 a station's estimate is not from 0 to the jam density
+a total since commissioning would pass 18446744073709551615
 the upstream list
 the downstream list
  has more than % ends, the horizon is % step~
@@ -75,25 +76,25 @@ refused % %
 
 const ESTIMATE: usize = 14;
 
-const UPSTREAM: usize = 19;
+const UPSTREAM: usize = 20;
 
-const DOWNSTREAM: usize = 20;
+const DOWNSTREAM: usize = 21;
 
-const MORE_ENDS: usize = 21;
+const MORE_ENDS: usize = 22;
 
-const OTHER_ENDS: usize = 22;
+const OTHER_ENDS: usize = 23;
 
-const OF_STEP: usize = 23;
+const OF_STEP: usize = 24;
 
-const OF_PAIR: usize = 24;
+const OF_PAIR: usize = 25;
 
-const OTHER_LENGTH: usize = 25;
+const OTHER_LENGTH: usize = 26;
 
-const LEFT: usize = 26;
+const LEFT: usize = 27;
 
-const LINE: usize = 29;
+const LINE: usize = 30;
 
-const REFUSED: usize = 30;
+const REFUSED: usize = 31;
 
 fn say(page: &mut Page, form: usize, a: u64, b: u64) {
     say::form(page, &MEANINGS, form, a, b, 0, 0);

@@ -3,6 +3,7 @@ use super::forms;
 use forecast::ForecastAnswer;
 use printing::page;
 use printing::page::Page;
+use scheme::Totals;
 use worked::print;
 use worked::roads;
 use worked::roads::A;
@@ -38,9 +39,20 @@ fn show(page: &mut Page, road: u8, line: usize, a: u32, b: u32) {
     forms::say(page, line, 0, 0);
     forms::say(page, forms::FACE, a as u64, b as u64);
     let mut out = [7u32; 1];
-    match forecast::forecast(roads::road(road), &[b], &[a], &[0], 1, &mut out) {
-        ForecastAnswer::Done(t) => {
-            forms::say(page, forms::MOVES, t.entered, 0);
+    match forecast::forecast(
+        roads::road(road),
+        &[b],
+        &[a],
+        &[0],
+        1,
+        Totals {
+            entered: 0,
+            left: 0,
+        },
+        &mut out,
+    ) {
+        ForecastAnswer::Done(d) => {
+            forms::say(page, forms::MOVES, d.own.entered, 0);
         }
         ForecastAnswer::Refused(f) => {
             print::refusal(page, f);

@@ -4,6 +4,7 @@ use forecast::ForecastAnswer;
 use printing::page;
 use printing::page::Page;
 use road::Road;
+use scheme::Totals;
 use worked::few;
 use worked::few::CELLS;
 use worked::few::EMPTY;
@@ -26,9 +27,13 @@ fn show(
     out: &mut [u32],
 ) {
     forms::say(page, line, 0, 0);
-    match forecast::forecast(road, cells, ups, downs, horizon, out) {
-        ForecastAnswer::Done(t) => {
-            forms::say(page, forms::TOTALS, t.entered, t.left);
+    let none = Totals {
+        entered: 0,
+        left: 0,
+    };
+    match forecast::forecast(road, cells, ups, downs, horizon, none, out) {
+        ForecastAnswer::Done(d) => {
+            forms::say(page, forms::TOTALS, d.own.entered, d.own.left);
         }
         ForecastAnswer::Refused(f) => {
             print::refusal(page, f);

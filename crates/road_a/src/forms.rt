@@ -2,8 +2,9 @@
 use printing::page::Page;
 use printing::say;
 
-const FORMS: [u8; 1255] = *b"\
+const FORMS: [u8; 1586] = *b"\
 : entered %, left %
+, totals % %
 : moves %
 : settled after %
 : unsettled after %
@@ -59,23 +60,35 @@ settling upstream above J, T 0
 settling downstream above J
 settling n 256, a jam that dissolves
 settling n 257
+one cell 101, ends 0, totals 7 and 5
+total left that comes to the largest
+total left one unit past it
+upstream 1000, total entered that comes to the largest
+total entered one unit past it
+T 0, both totals the largest
+T 1, both totals the largest
+downstream above J, both totals the largest
+chain, ends % and %
+, cells
 ";
 
 // What follows a name.
 pub const TOTALS: usize = 0;
 
-pub const MOVES: usize = 1;
+pub const SO_FAR: usize = 1;
 
-pub const SETTLED: usize = 2;
+pub const MOVES: usize = 2;
 
-pub const UNSETTLED: usize = 3;
+pub const SETTLED: usize = 3;
 
-pub const OUTPUT: usize = 4;
+pub const UNSETTLED: usize = 4;
 
-pub const FACE: usize = 5;
+pub const OUTPUT: usize = 5;
+
+pub const FACE: usize = 6;
 
 // The first name of each table.
-pub const ROADS: usize = 6;
+pub const ROADS: usize = 7;
 
 // The roads of the faces, among them.
 pub const ROAD_A: usize = ROADS;
@@ -97,6 +110,12 @@ pub const EDGES: usize = FORECASTS + 16;
 pub const SETTLINGS: usize = EDGES + 7;
 
 pub const LONG_SETTLINGS: usize = SETTLINGS + 11;
+
+pub const FULL: usize = LONG_SETTLINGS + 2;
+
+pub const CHAIN: usize = FULL + 8;
+
+pub const CELLS: usize = CHAIN + 1;
 
 // A form, with the numbers that it asks for.
 pub fn say(page: &mut Page, line: usize, a: u64, b: u64) {

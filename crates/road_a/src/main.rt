@@ -1,9 +1,10 @@
-// The worked cases of Level 1, run: roads, faces, forecasts, settling runs. One line a case, held to stdout.
+// The worked cases of Level 1, run: roads, faces, forecasts, settling runs, totals. One line a case, held to stdout.
 mod faces;
 mod forecasts;
 mod forms;
 mod roads;
 mod settlings;
+mod totals;
 
 use printing::page;
 
@@ -15,5 +16,7 @@ fn main() {
     forecasts::edges(&mut page);
     settlings::cases(&mut page);
     settlings::long_cases(&mut page);
+    totals::cases(&mut page);
+    totals::chain(&mut page);
     page::sent(&mut page);
 }

@@ -3,6 +3,7 @@ use super::forms;
 use super::forms::say;
 use arguments::options::Options;
 use forecast::ForecastAnswer;
+use forecast::Record;
 use printing::lists;
 use printing::page;
 use printing::page::Page;
@@ -15,14 +16,32 @@ use request::status;
 use road::Road;
 use scheme::Totals;
 
-fn report(page: &mut Page, lines: bool, t: Totals, horizon: u32, cells: &[u32]) {
+fn report(page: &mut Page, lines: bool, d: Record, horizon: u32, cells: &[u32]) {
     let n = cells.len() as u64;
+    let own = d.own;
+    let totals = d.totals;
     if lines {
-        say(page, forms::FORECAST_LINE, t.entered, t.left, n, 0);
+        say(
+            page,
+            forms::FORECAST_LINE,
+            own.entered,
+            own.left,
+            totals.entered,
+            totals.left,
+        );
+        say(page, forms::LENGTH, n, 0, 0, 0);
         lists::densities(page, true, cells);
         page::put(page, b'\n');
     } else {
-        say(page, forms::FORECAST, n, horizon as u64, t.entered, t.left);
+        say(
+            page,
+            forms::FORECAST,
+            n,
+            horizon as u64,
+            own.entered,
+            own.left,
+        );
+        say(page, forms::TOTALS, totals.entered, totals.left, 0, 0);
         lists::densities(page, false, cells);
     }
 }
@@ -36,11 +55,12 @@ fn made(
     ups: &[u32],
     downs: &[u32],
     horizon: u32,
+    totals: Totals,
     out: &mut [u32],
 ) -> bool {
-    match forecast::forecast(road, cells, ups, downs, horizon, out) {
-        ForecastAnswer::Done(t) => {
-            report(page, lines, t, horizon, out);
+    match forecast::forecast(road, cells, ups, downs, horizon, totals, out) {
+        ForecastAnswer::Done(d) => {
+            report(page, lines, d, horizon, out);
             true
         }
         ForecastAnswer::Refused(f) => {
@@ -60,9 +80,10 @@ fn made_and_drawn(
     ups: &[u32],
     downs: &[u32],
     horizon: u32,
+    totals: Totals,
     out: &mut [u32],
 ) -> u8 {
-    if !made(page, o.lines, road, cells, ups, downs, horizon, out) {
+    if !made(page, o.lines, road, cells, ups, downs, horizon, totals, out) {
         return status::REFUSED;
     }
     if o.picture == 0 {
@@ -89,6 +110,7 @@ pub fn act(page: &mut Page, o: Options, text: &[u8]) -> u8 {
         &ups[..u],
         &downs[..d],
         numbers::one(text, keys::HORIZON),
+        numbers::totals(text),
         &mut out[..m],
     )
 }

@@ -2,8 +2,10 @@
 use printing::page::Page;
 use printing::say;
 
-const FORMS: [u8; 188] = *b"done forecast % % %
-forecast of % cell~ over % step~|  entered %, left %|  cells at the end|
+const FORMS: [u8; 235] = *b"done forecast % % % %
+ %
+forecast of % cell~ over % step~|  entered %, left %|
+  since commissioning: entered %, left %|  cells at the end|
 done settle % % %
 settle of % cell~ within % step~|  
 not 
@@ -12,15 +14,19 @@ settled after % step~|  cells then|
 
 pub const FORECAST_LINE: usize = 0;
 
-pub const FORECAST: usize = 1;
+pub const LENGTH: usize = 1;
 
-pub const SETTLE_LINE: usize = 2;
+pub const FORECAST: usize = 2;
 
-pub const SETTLE: usize = 3;
+pub const TOTALS: usize = 3;
 
-pub const NOT: usize = 4;
+pub const SETTLE_LINE: usize = 4;
 
-pub const SETTLED: usize = 5;
+pub const SETTLE: usize = 5;
+
+pub const NOT: usize = 6;
+
+pub const SETTLED: usize = 7;
 
 // A form with its numbers, of which it takes as many as it has room for.
 pub fn say(page: &mut Page, form: usize, a: u64, b: u64, c: u64, d: u64) {

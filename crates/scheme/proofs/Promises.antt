@@ -4,6 +4,7 @@ use mathlib.Core.List.{List}
 use Prim.Native.Nat.{ℕ, zero, suc, _+_, _-_, _*_, _^_, _≤_, _<_}
 use native.Mathlib.Omega.{arith}
 use lib.ListN.{length, getD, replicate}
+use Rattle.road.specs.Ceilings.{jamCeiling}
 use Rattle.road.specs.Judgement.{Accepted}
 use Rattle.road.specs.declared.Road.{Road}
 use Rattle.flux.proofs.Scaling.{homogeneous}
@@ -19,6 +20,7 @@ use Rattle.scheme.proofs.Range.{stepped-cell}
 use Rattle.scheme.proofs.Runs.{ran-length, run-below, run-balance, run-monotone, run-contraction, scaled-below}
 use Rattle.scheme.proofs.Lists.{pairs-at}
 use Rattle.scheme.proofs.Scaling.{stepAt-times, ranAt-times}
+use Rattle.scheme.proofs.Underway.{run-small}
 use Rattle.scheme.proofs.Distance.{step-near, step-rounding, run-rounding}
 
 -- the k steps of a settling run are the run over k copies of its end pair
@@ -55,6 +57,12 @@ module _ (r : Road) (ok : Accepted r) where
   pub round-balance : (ups downs xs : List ℕ) → sum xs + entered r ups downs xs ≡ sum (roundRun r ups downs xs) + left r ups downs xs
   unfolding roundRun entered left
   round-balance = run-balance (λ t. partners r ok .rounded)
+
+  -- a step moves at most the ceiling of jam over face 0, and over face n
+  pub round-small : (ups downs xs : List ℕ) → Below (r .jam) ups → Below (r .jam) xs
+      → (entered r ups downs xs ≤ length ups * jamCeiling) × (left r ups downs xs ≤ length ups * jamCeiling)
+  unfolding entered left
+  round-small = run-small (λ t. partners r ok .rounded) (ok .jam-high)
 
   -- start and ends nowhere higher give densities nowhere higher
   pub round-monotone : {ups ups′ downs downs′ xs ys : List ℕ} → NoMore ups ups′ → NoMore downs downs′ → NoMore xs ys

@@ -45,6 +45,16 @@ module _ {j c : ℕ} {F : ℕ → ℕ → ℕ → ℕ} (laws : Lawful 1 j c F) w
   unfolding leaving
   leaving-small u d xs h k = outflow-small 1 (entering F u d xs) d xs h (entering-small u d xs k)
 
+-- nor a run more than the ceiling of jam for each pair of its ends
+pub run-small : {j c : ℕ} {F : ℕ → ℕ → ℕ → ℕ → ℕ} → AlwaysLawful 1 j c F → j ≤ jamCeiling → (ups downs xs : List ℕ) → Below j ups → Below j xs
+    → (enteredBy 1 F ups downs xs ≤ length ups * jamCeiling) × (leftBy 1 F ups downs xs ≤ length ups * jamCeiling)
+unfolding summed
+run-small laws high [] downs xs k h = (zero-le, zero-le)
+run-small laws high (u ∷ ups) [] xs k h = (zero-le, zero-le)
+run-small {F = F} laws high (u ∷ ups) (d ∷ downs) xs k h =
+    let rest = run-small (λ t. laws (suc t)) high ups downs (stepped 1 (F 0) u d xs) (λ n. k (suc n)) (steps-below (laws 0) u d xs h) in
+    (omega (arith, rest .0, entering-small (laws 0) u d xs (k 0)), omega (arith, rest .1, leaving-small (laws 0) u d xs h (k 0)))
+
 pub begins : {j : ℕ} (F : ℕ → ℕ → ℕ → ℕ → ℕ) (ups downs old : List ℕ) → Below j old → RunUnderway j F ups downs old old 0 0 0
 unfolding ran summed
 begins F ups downs old h =

@@ -3,7 +3,7 @@ ghost use Rattle.scheme.specs.Calls.{ReadyToRun, Ran};
 use super::one_step::step;
 use flux::Pace;
 
-// The units over face 0 and over face n in a whole run.
+// The units over face 0 and over face n, of one run or since commissioning.
 pub struct Totals {
     pub entered: u64,
     pub left: u64,

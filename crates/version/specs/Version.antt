@@ -5,11 +5,11 @@ abbrev pub major : ℕ
 major = 0
 
 abbrev pub minor : ℕ
-minor = 5
+minor = 6
 
 abbrev pub patch : ℕ
 patch = 0
 
--- 0.5.0 is 500: ten thousand a major, a hundred a minor version
+-- 0.6.0 is 600: ten thousand a major, a hundred a minor version
 abbrev pub versionNumber : ℕ
 versionNumber = major * 10000 + minor * 100 + patch

@@ -9,15 +9,15 @@ use Rattle.choice.specs.Choice.{pick, both}
 use Rattle.vocabulary.specs.Ascii.{ascii}
 use Rattle.vocabulary.specs.declared.keys.Key.{Key}
 
--- the largest number: a code or a mode is one byte, a bit pattern 64 bits, any other number 32 bits
+-- the largest number: a code or a mode is one byte, a bit pattern or a total 64 bits, any other number 32 bits
 abbrev pub byte : ℕ
 byte = 255
 
 abbrev pub number : ℕ
 number = 4294967295
 
-abbrev pub pattern : ℕ
-pattern = 18446744073709551615
+abbrev pub wide : ℕ
+wide = 18446744073709551615
 
 -- a keyword's row: its name, padded with blanks to ten letters; whether its lines are joined to a list, and take runs; how many values a line takes,
 -- 0 of a list, whose line takes one or more; the largest number
@@ -36,7 +36,7 @@ table =
     ∷ row "word      " true 0 byte
     ∷ row "mode      " false 1 byte
     ∷ row "estimates " false 3 number
-    ∷ row "bits      " false 3 pattern
+    ∷ row "bits      " false 3 wide
     ∷ row "forecast  " false 0 number
     ∷ row "settle    " false 0 number
     ∷ row "read      " false 0 number
@@ -51,6 +51,7 @@ table =
     ∷ row "station   " false 0 number
     ∷ row "readlast  " false 0 number
     ∷ row "nearest   " false 0 number
+    ∷ row "totals    " false 2 wide
     ∷ []
 
 -- what is no key: no name, and no values
@@ -63,7 +64,7 @@ keyRow code = getD table code none
 
 -- how many keywords there are: the table's rows (`rows-counted`)
 abbrev pub keyCount : ℕ
-keyCount = 24
+keyCount = 25
 
 -- whether a word, padded with blanks, is the name
 unfoldable pub isName : List ℕ → List ℕ → Bool

@@ -16,15 +16,15 @@ pub struct Key {
 // The same in a table's row, in that order.
 struct Row([u8; 10], bool, usize, u64);
 
-// The largest number: a code or a mode is one byte, a bit pattern 64 bits, any other number 32 bits.
+// The largest number: a code or a mode is one byte, a bit pattern or a total 64 bits, any other number 32 bits.
 const BYTE: u64 = 255;
 
 const NUMBER: u64 = 4294967295;
 
-const PATTERN: u64 = 18446744073709551615;
+const WIDE: u64 = 18446744073709551615;
 
 // How many keywords there are: a new one is one more here, and a row at the end of the table.
-const KEYS: usize = 24;
+const KEYS: usize = 25;
 
 // A key's code is its row's place. No other keyword starts with `end`: a text cut off within a keyword has no `end`.
 const TABLE: [Row; KEYS] = [
@@ -37,7 +37,7 @@ const TABLE: [Row; KEYS] = [
     Row(*b"word      ", true, 0, BYTE),
     Row(*b"mode      ", false, 1, BYTE),
     Row(*b"estimates ", false, 3, NUMBER),
-    Row(*b"bits      ", false, 3, PATTERN),
+    Row(*b"bits      ", false, 3, WIDE),
     Row(*b"forecast  ", false, 0, NUMBER),
     Row(*b"settle    ", false, 0, NUMBER),
     Row(*b"read      ", false, 0, NUMBER),
@@ -52,6 +52,7 @@ const TABLE: [Row; KEYS] = [
     Row(*b"station   ", false, 0, NUMBER),
     Row(*b"readlast  ", false, 0, NUMBER),
     Row(*b"nearest   ", false, 0, NUMBER),
+    Row(*b"totals    ", false, 2, WIDE),
 ];
 
 // What is no key: no name, and no values.

@@ -8,6 +8,7 @@ use Rattle.road.specs.declared.Road.{Road}
 use Rattle.road.specs.declared.refusal.Refusal.{Refusal}
 use Rattle.scheme.specs.declared.many_steps.Totals.{Totals}
 use Rattle.scheme.specs.declared.settling.Settled.{Settled}
+use Rattle.forecast.specs.declared.forecasting.Record.{Record}
 use Rattle.forecast.specs.declared.forecasting.ForecastAnswer.{ForecastAnswer}
 use Rattle.forecast.specs.declared.forecasting.ForecastAnswer.the-variants as F
 use Rattle.forecast.specs.declared.settling.SettleAnswer.{SettleAnswer}
@@ -20,13 +21,13 @@ use Rattle.welgadou.specs.Parts.{flagOf}
 use Rattle.welgadou.specs.Level1.{Forecasted, SettledRun}
 use Rattle.welgadou.proofs.Answers.{meaning-along, judged-told, refusal-counts, former-when-refused}
 
-module _ {r : Road} {cells ups downs : List ℕ} {t : ℕ} {out next : List ℕ} {a : ForecastAnswer} (forecasts : Forecast.Forecasts r cells ups downs t out next a) where
-  forecast-told : {b : ForecastAnswer} → a ≡ b → ForecastJudged r cells ups downs t (length out) (refused (Forecast.meaning b .number) (Forecast.meaning b .place))
+module _ {r : Road} {cells ups downs : List ℕ} {t : ℕ} {totals : Totals} {out next : List ℕ} {a : ForecastAnswer} (forecasts : Forecast.Forecasts r cells ups downs t totals out next a) where
+  forecast-told : {b : ForecastAnswer} → a ≡ b → ForecastJudged r cells ups downs t totals (length out) (refused (Forecast.meaning b .number) (Forecast.meaning b .place))
   forecast-told e =
-      judged-told (ForecastJudged r cells ups downs t (length out)) (λ (x : ForecastAnswer). refused (Forecast.meaning x .number) (Forecast.meaning x .place)) e (forecasts .judged)
+      judged-told (ForecastJudged r cells ups downs t totals (length out)) (λ (x : ForecastAnswer). refused (Forecast.meaning x .number) (Forecast.meaning x .place)) e (forecasts .judged)
 
-  pub forecast-done : {d : Totals} {entered left : ℕ} → a ≡ F.Done d → Forecasted r cells ups downs t out next entered (d .entered) left (d .left) 0 0
-  forecast-done e =
+  pub forecast-done : {d : Record} {entered left : ℕ} → a ≡ F.Done d → Forecasted r cells ups downs t out next entered (d .own .entered) left (d .own .left) totals (d .totals) 0 0
+  forecast-done {d} e =
       let m = meaning-along Forecast.meaning e (forecasts .means) in
       record {
         returned = ap (λ (x : Forecast.Meaning). x .number) m;
@@ -34,12 +35,15 @@ module _ {r : Road} {cells ups downs : List ℕ} {t : ℕ} {out next : List ℕ}
         output = forecasts .output;
         entered-written = ap (λ (x : Forecast.Meaning). x .entered) m;
         left-written = ap (λ (x : Forecast.Meaning). x .left) m;
+        total-entered-written = ap (λ (x : Forecast.Meaning). x .total-entered) m;
+        total-left-written = ap (λ (x : Forecast.Meaning). x .total-left) m;
         judged = forecast-told e;
-        demand3 = λ z. forecasts .demand3 _ e;
-        by-faces = λ z. forecasts .by-faces _ e;
+        demand3 = λ z. forecasts .demand3 d e;
+        by-faces = λ z. forecasts .by-faces d e;
+        carried = λ z. forecasts .carried d e;
       }
 
-  pub forecast-refused : {f : Refusal} {entered left : ℕ} → a ≡ F.Refused f → Forecasted r cells ups downs t out next entered entered left left (f .place) (f .number)
+  pub forecast-refused : {f : Refusal} {entered left : ℕ} → a ≡ F.Refused f → Forecasted r cells ups downs t out next entered entered left left totals totals (f .place) (f .number)
   unfolding forecastAnswer forecastMeaning
   forecast-refused {f} e =
       let m = meaning-along Forecast.meaning e (forecasts .means) in
@@ -51,9 +55,12 @@ module _ {r : Road} {cells ups downs : List ℕ} {t : ℕ} {out next : List ℕ}
         output = forecasts .output;
         entered-written = former-when-refused counts _ _;
         left-written = former-when-refused counts _ _;
+        total-entered-written = former-when-refused counts _ _;
+        total-left-written = former-when-refused counts _ _;
         judged = forecast-told e;
         demand3 = λ z. absurd (counts z);
         by-faces = λ z. absurd (counts z);
+        carried = λ z. absurd (counts z);
       }
 
 module _ {r : Road} {cells : List ℕ} {up down t : ℕ} {out next : List ℕ} {a : SettleAnswer} (settles : Settle.Settles r cells up down t out next a) where

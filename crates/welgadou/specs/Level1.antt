@@ -7,21 +7,28 @@ use lib.ListN.{length}
 use Rattle.road.specs.Table.{refused}
 use Rattle.road.specs.declared.Road.{Road}
 use Rattle.scheme.specs.ByFaces.{RunByFaces}
-use Rattle.forecast.specs.Forecast.{forecastMeaning, forecastCells, ForecastJudged, Demand3}
+use Rattle.scheme.specs.declared.many_steps.Totals.{Totals}
+use Rattle.forecast.specs.Forecast.{increased, forecastMeaning, forecastCells, ForecastJudged, Demand3}
 use Rattle.forecast.specs.Settle.{settleMeaning, settleOutput, SettleJudged, Settlement}
-use Rattle.welgadou.specs.Parts.{written, flagOf}
+use Rattle.welgadou.specs.Parts.{totalsOf, written, flagOf}
 
--- welgadou_forecast: the cells, the units entered and left
-pub record Forecasted (r : Road) (cells ups downs : List ℕ) (t : ℕ) (out next : List ℕ) (entered entered-next left left-next place number : ℕ) : Type 0 where
-  pub returned : number ≡ forecastMeaning r cells ups downs t (length out) .number
-  pub placed : place ≡ forecastMeaning r cells ups downs t (length out) .place
-  pub output : next ≡ forecastCells r cells ups downs t out
-  pub entered-written : entered-next ≡ written number (forecastMeaning r cells ups downs t (length out) .entered) entered
-  pub left-written : left-next ≡ written number (forecastMeaning r cells ups downs t (length out) .left) left
+-- welgadou_forecast, exported as welgadou_forecast_2: the cells, the units entered and left, and the totals, which are those so far at entry and stay so where the
+-- call refuses
+pub record Forecasted (r : Road) (cells ups downs : List ℕ) (t : ℕ) (out next : List ℕ) (entered entered-next left left-next : ℕ) (totals totals-next : Totals)
+    (place number : ℕ) : Type 0 where
+  pub returned : number ≡ forecastMeaning r cells ups downs t totals (length out) .number
+  pub placed : place ≡ forecastMeaning r cells ups downs t totals (length out) .place
+  pub output : next ≡ forecastCells r cells ups downs t totals out
+  pub entered-written : entered-next ≡ written number (forecastMeaning r cells ups downs t totals (length out) .entered) entered
+  pub left-written : left-next ≡ written number (forecastMeaning r cells ups downs t totals (length out) .left) left
+  pub total-entered-written : totals-next .entered ≡ written number (forecastMeaning r cells ups downs t totals (length out) .total-entered) (totals .entered)
+  pub total-left-written : totals-next .left ≡ written number (forecastMeaning r cells ups downs t totals (length out) .total-left) (totals .left)
   -- demands 1, 3 and 2, of the number and place returned and of what is written
-  pub judged : ForecastJudged r cells ups downs t (length out) (refused number place)
+  pub judged : ForecastJudged r cells ups downs t totals (length out) (refused number place)
   pub demand3 : number ≡ 0 → Demand3 r cells ups downs t next entered-next left-next
   pub by-faces : number ≡ 0 → RunByFaces r ups downs cells next entered-next left-next
+  -- the totals are "increased by the call's own entered and left"
+  pub carried : number ≡ 0 → totals-next ≡ increased totals (totalsOf entered-next left-next)
 
 -- welgadou_settle: the state, whether it settled, the steps made
 pub record SettledRun (r : Road) (cells : List ℕ) (up down t : ℕ) (out next : List ℕ) (settled settled-next steps steps-next place number : ℕ) : Type 0 where

@@ -1,14 +1,19 @@
--- What the promises of the C calls share: the road of five numbers, a pointer's contents afterwards, a flag, a mode's byte.
+-- What the promises of the C calls share: the road of five numbers, both totals, a pointer's contents afterwards, a flag, a mode's byte.
 use mathlib.Core.Path.{_≡_}
 use mathlib.Core.Bool.{Bool}
 use Prim.Native.Nat.{ℕ, _≤_, _<_}
 use lib.Dec.{eqb}
 use Rattle.choice.specs.Choice.{pick}
 use Rattle.road.specs.declared.Road.{Road}
+use Rattle.scheme.specs.declared.many_steps.Totals.{Totals}
 
 -- a road goes in as five numbers
 abbrev pub roadOf : ℕ → ℕ → ℕ → ℕ → ℕ → Road
 roadOf divisor free wave jam critical = record { divisor = divisor; free = free; wave = wave; jam = jam; critical = critical }
+
+-- both totals stand behind two pointers
+abbrev pub totalsOf : ℕ → ℕ → Totals
+totalsOf entered left = record { entered = entered; left = left }
 
 -- what stands behind a pointer afterwards: the value where the call's number is 0, else its former contents
 abbrev pub written {ℓ} : {A : Type ℓ} → ℕ → A → A → A

@@ -1,15 +1,16 @@
 // Level 1 for C: forecast and settling run.
-ghost use Rattle.welgadou.specs.Parts.{roadOf};
+ghost use Rattle.welgadou.specs.Parts.{roadOf, totalsOf};
 ghost use Rattle.welgadou.specs.Level1.{Forecasted, SettledRun};
 use super::parts::flag;
 use forecast::ForecastAnswer;
 use forecast::SettleAnswer;
 use road::Road;
+use scheme::Totals;
 
-// 0, with the cells after the horizon's steps in `out`, the units in `entered` and `left` and 0 in `place`; or the
-// refusal's number with its place, and nothing else written.
+// 0, with the cells after the horizon's steps in `out`, their units in `entered` and `left`, both totals increased by these
+// and 0 in `place`; or the refusal's number with its place, and nothing else written.
 #[no_mangle]
-pub extern "C" fn welgadou_forecast(
+pub extern "C" fn welgadou_forecast_2(
     divisor: u32,
     free: u32,
     wave: u32,
@@ -22,9 +23,11 @@ pub extern "C" fn welgadou_forecast(
     out: &mut [u32],
     entered: &mut u64,
     left: &mut u64,
+    total_entered: &mut u64,
+    total_left: &mut u64,
     place: &mut u32,
 ) -> u32
-    ensures { λ n. ⌜ Forecasted (roadOf divisor free wave jam critical) (now (cells .entry)) (now (upstream .entry)) (now (downstream .entry)) horizon (now (out .entry)) (now (out .exit)) (now (entered .entry)) (now (entered .exit)) (now (left .entry)) (now (left .exit)) (now (place .exit)) n ⌝ }
+    ensures { λ n. ⌜ Forecasted (roadOf divisor free wave jam critical) (now (cells .entry)) (now (upstream .entry)) (now (downstream .entry)) horizon (now (out .entry)) (now (out .exit)) (now (entered .entry)) (now (entered .exit)) (now (left .entry)) (now (left .exit)) (totalsOf (now («total_entered» .entry)) (now («total_left» .entry))) (totalsOf (now («total_entered» .exit)) (now («total_left» .exit))) (now (place .exit)) n ⌝ }
 {
     let road = Road {
         divisor,
@@ -33,10 +36,16 @@ pub extern "C" fn welgadou_forecast(
         jam,
         critical,
     };
-    match forecast::forecast(road, cells, upstream, downstream, horizon, out) {
-        ForecastAnswer::Done(t) => {
-            *entered = t.entered;
-            *left = t.left;
+    let totals = Totals {
+        entered: *total_entered,
+        left: *total_left,
+    };
+    match forecast::forecast(road, cells, upstream, downstream, horizon, totals, out) {
+        ForecastAnswer::Done(d) => {
+            *entered = d.own.entered;
+            *left = d.own.left;
+            *total_entered = d.totals.entered;
+            *total_left = d.totals.left;
             *place = 0;
             0
         }

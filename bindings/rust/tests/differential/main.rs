@@ -12,18 +12,26 @@ mod reference;
 
 use exact::Whole;
 use random::Random;
-use reference::{Ranking, Refused, Station};
+use reference::{Forecast, Ranking, Refused, Station, Units};
 use std::collections::BTreeMap;
 use std::env;
 use std::thread;
-use welgadou::{Fit, Refusal, Road, StationReading};
+use welgadou::{Fit, Moved, Refusal, Road, StationReading, Totals};
 
 fn road_of([divisor, free, wave, jam, critical]: [u32; 5]) -> Road {
     Road { divisor, free, wave, jam, critical }
 }
 
+fn totals_of([entered, left]: Units) -> Totals {
+    Totals { entered, left }
+}
+
 fn pair_of(refusal: Refusal) -> Refused {
     (refusal.number, refusal.place)
+}
+
+fn own_of(answer: Result<Moved, Refusal>) -> Result<Units, Refused> {
+    answer.map(|moved| [moved.entered, moved.left]).map_err(pair_of)
 }
 
 /// The crate and the archive are of one version.
@@ -90,6 +98,34 @@ fn faults(g: &mut Random) -> usize {
 
 // Level 1.
 
+/// What a forecast answers, the same as C makes it, by the safe function and by the reference.
+fn forecast(
+    road: [u32; 5],
+    cells: &[u32],
+    up: &[u32],
+    down: &[u32],
+    horizon: u32,
+    totals: Units,
+    out: usize,
+) -> Result<Forecast, Refused> {
+    let expected = reference::forecast(road, cells, up, down, horizon, totals, out);
+    let input = || {
+        let lists = format!("cells {cells:?}, up {up:?}, down {down:?}");
+        format!("road {road:?}, {lists}, horizon {horizon}, totals {totals:?}, out {out}")
+    };
+
+    let as_c = expected.clone().map(|done| (done.cells, done.own, done.totals));
+    assert_eq!(raw::forecast(road, cells, up, down, horizon, totals, out), as_c, "{}", input());
+
+    let before = (vec![0x5a5a_5a5a; out], totals_of(totals));
+    let mut outputs = before.clone();
+    let by_rust = welgadou::forecast(&road_of(road), cells, up, down, horizon, &mut outputs.1, &mut outputs.0);
+    assert_eq!(own_of(by_rust), expected.clone().map(|done| done.own), "{}", input());
+    let after = expected.clone().map_or(before, |done| (done.cells, totals_of(done.totals)));
+    assert_eq!(outputs, after, "{}", input());
+    expected
+}
+
 fn one_forecast(g: &mut Random, work: usize) -> Kind {
     let mut road = random::good_road(g);
     let n = random::size(g);
@@ -135,30 +171,19 @@ fn one_forecast(g: &mut Random, work: usize) -> Kind {
             _ => random::damage_values(g, &good, &mut down),
         }
     }
-    let expected = reference::forecast(road, &cells, &up, &down, horizon, out);
-    let input = || format!("road {road:?}, cells {cells:?}, up {up:?}, down {down:?}, horizon {horizon}, out {out}");
-
-    let by_c = raw::forecast(road, &cells, &up, &down, horizon, out)
-        .map(|(cells, entered, left)| reference::Forecast { cells, entered, left });
-    assert_eq!(by_c, expected, "{}", input());
-
-    let mut buffer = vec![0x5a5a_5a5a; out];
-    let by_rust = welgadou::forecast(&road_of(road), &cells, &up, &down, horizon, &mut buffer);
-    match &expected {
-        Ok(done) => {
-            assert_eq!(by_rust, Ok(welgadou::Totals { entered: done.entered, left: done.left }), "{}", input());
-            assert_eq!(buffer, done.cells, "{}", input());
-        }
-        Err(refused) => {
-            assert_eq!(by_rust.map_err(pair_of), Err(*refused), "{}", input());
-            assert!(buffer.iter().all(|&x| x == 0x5a5a_5a5a), "{}", input());
-        }
-    }
-    kind_of(&expected, |done| if done.cells == cells { " as before" } else { " changed" })
+    // With a fault there are no units of its own, and a full total is mostly the largest: the lower number must win.
+    let own = reference::forecast(road, &cells, &up, &down, horizon, [0, 0], out).map_or([0, 0], |done| done.own);
+    let totals = random::totals(g, own);
+    let answer = forecast(road, &cells, &up, &down, horizon, totals, out);
+    kind_of(&answer, |done| match (done.totals.contains(&u64::MAX), done.cells == cells) {
+        (true, _) => " with a full total",
+        (false, true) => " as before",
+        (false, false) => " changed",
+    })
 }
 
-const FORECAST: [u32; 11] = [1, 2, 3, 4, 5, 6, 7, 8, 9, 10, 11];
-const FORECAST_WORDS: [&str; 2] = [" as before", " changed"];
+const FORECAST: [u32; 12] = [1, 2, 3, 4, 5, 6, 7, 8, 9, 10, 11, 19];
+const FORECAST_WORDS: [&str; 3] = [" as before", " changed", " with a full total"];
 
 #[test]
 fn forecasts() {
@@ -170,6 +195,39 @@ fn long_forecasts() {
     cases("forecast, long", 400, &FORECAST, &FORECAST_WORDS, |g| one_forecast(g, 256 * 4096));
 }
 
+/// A short forecast without faults. Of its totals those that `full` names are about full, the others have room for its
+/// units, so that 19 can come of the named ones alone.
+fn one_full_total(g: &mut Random, full: [bool; 2]) -> Kind {
+    let road = random::good_road(g);
+    let (n, steps) = (1 + g.below(8), g.below(13));
+    let cells = random::densities(g, &road, n);
+    let (up, down) = (random::densities(g, &road, steps), random::densities(g, &road, steps));
+    let answer_from = |totals| forecast(road, &cells, &up, &down, steps as u32, totals, n);
+
+    let own = answer_from([0, 0]).expect("accepted").own;
+    let mut total = |i: usize| match full[i] {
+        true => random::full_total(g, own[i]),
+        false => random::total_with_room(g, own[i]),
+    };
+    let answer = answer_from([total(0), total(1)]);
+    kind_of(&answer, |done| {
+        let largest = (0..2).filter(|&i| full[i] && done.totals[i] == u64::MAX);
+        match largest.map(|i| own[i]).max() {
+            None => " below the largest",
+            Some(0) => " the largest before",
+            Some(_) => " to the largest",
+        }
+    })
+}
+
+#[test]
+fn full_totals() {
+    let words = [" below the largest", " the largest before", " to the largest"];
+    cases("total entered full", 20_000, &[19], &words, |g| one_full_total(g, [true, false]));
+    cases("total left full", 20_000, &[19], &words, |g| one_full_total(g, [false, true]));
+    cases("both totals full", 20_000, &[19], &words, |g| one_full_total(g, [true, true]));
+}
+
 /// Single faces about half a unit: the face before the one cell of a forecast over one step.
 #[test]
 fn faces() {
@@ -179,7 +237,7 @@ fn faces() {
         let (a, b) = (random::near_half(g, &road, free), jam - random::near_half(g, &road, wave));
         let r = reference::Road::new(road);
         let flow = reference::numerator(&r, i128::from(a), i128::from(b));
-        let (_, entered, _) = raw::forecast(road, &[b], &[a], &[jam], 1, 1).expect("accepted");
+        let (_, [entered, _], _) = raw::forecast(road, &[b], &[a], &[jam], 1, [0, 0], 1).expect("accepted");
         assert_eq!(i128::from(entered), reference::units(&r, flow), "road {road:?}, the units of ({a}, {b})");
         let twice = 2 * (flow % r.d);
         let kinds = [(twice == 0, " whole"), (twice < r.d, " below a half"), (twice == r.d, " a half")];
@@ -397,7 +455,7 @@ fn own_rows_are_the_exact_step() {
         let r = &road_of(road);
         welgadou::read(r, &cells, up, down, &mut letters, &mut modes).expect("accepted");
         welgadou::rows(r, &cells, up, down, &letters, &mut values).expect("accepted");
-        welgadou::forecast(r, &cells, &[up], &[down], 1, &mut next).expect("accepted");
+        welgadou::forecast(r, &cells, &[up], &[down], 1, &mut Totals::default(), &mut next).expect("accepted");
         let (exact, _) = exact::run(road, &cells, &[up], &[down]);
         for i in 0..n {
             let value = u32::try_from(values[i]).expect("an own row is no density times the divisor");
@@ -684,13 +742,16 @@ fn demand_3() {
         let (n, steps) = (1 + g.below(8), g.below(13));
         let cells = random::densities(g, &road, n);
         let (up, down) = (random::densities(g, &road, steps), random::densities(g, &road, steps));
+        // The balance is that of the forecast's own units, whatever the totals.
+        let mut totals = Totals { entered: g.bits() / 2, left: g.bits() / 2 };
         let mut out = vec![u32::MAX; n];
-        let totals = welgadou::forecast(&road_of(road), &cells, &up, &down, steps as u32, &mut out).expect("accepted");
+        let answer = welgadou::forecast(&road_of(road), &cells, &up, &down, steps as u32, &mut totals, &mut out);
+        let moved = answer.expect("accepted");
         let input = || format!("road {road:?}, cells {cells:?}, up {up:?}, down {down:?}");
 
         assert!(out.iter().all(|&x| x <= jam), "{}", input());
         let sum = |list: &[u32]| list.iter().map(|&x| u64::from(x)).sum::<u64>();
-        assert_eq!(sum(&cells) + totals.entered, sum(&out) + totals.left, "{}", input());
+        assert_eq!(sum(&cells) + moved.entered, sum(&out) + moved.left, "{}", input());
 
         let (exact, z) = exact::run(road, &cells, &up, &down);
         let mut distance = Whole::new(0);
@@ -704,27 +765,61 @@ fn demand_3() {
     });
 }
 
-/// Forecasts fed one another's cells: never refused, and the units of all of them balance.
+/// A chain of forecasts as a site makes it: one variable for the totals, which are both `begun` at first, and the last
+/// accepted call's cells. After every call, refused or not, the units at the beginning plus those entered are the units on
+/// the road plus those left. Hands back the numbers of the refused calls, of which some were damaged.
+fn chain(g: &mut Random, road: [u32; 5], begun: u64) -> Vec<u32> {
+    let units = |cells: &[u32], total: u64| cells.iter().map(|&x| u128::from(x)).sum::<u128>() + u128::from(total);
+    let n = random::size(g);
+    let start = random::densities(g, &road, n);
+    let (mut cells, mut totals, mut refused) = (start.clone(), totals_of([begun, begun]), vec![]);
+    for _ in 0..50 {
+        let steps = g.from(0, Road::horizon_ceiling() / 8);
+        let mut ends = [(); 2].map(|()| random::densities(g, &road, steps as usize));
+        match g.below(8) {
+            side @ 0..=1 => random::damage_values(g, &road, &mut ends[side]),
+            2 => ends[0].push(0),
+            _ => {}
+        }
+        let [up, down] = &ends;
+        let expected = reference::forecast(road, &cells, up, down, steps, [totals.entered, totals.left], n);
+
+        let before = (cells.clone(), totals);
+        let mut next = cells.clone();
+        let answer = welgadou::forecast(&road_of(road), &cells, up, down, steps, &mut totals, &mut next);
+        assert_eq!(own_of(answer), expected.map(|done| done.own), "road {road:?}, from {before:?}");
+        if let Err(refusal) = answer {
+            assert_eq!((&cells, &next, totals), (&before.0, &before.0, before.1), "road {road:?}, {refusal}");
+            refused.push(refusal.number);
+        }
+        cells = next;
+        assert_eq!(units(&start, totals.entered), units(&cells, totals.left), "road {road:?}, from {before:?}");
+    }
+    refused
+}
+
+/// From totals of 0 on a call is refused for a fault of its own, and never for its totals.
 #[test]
 fn year_after_year() {
-    cases("chain of forecasts", 30, &[], &[""], |g| {
+    cases("chain of forecasts", 30, &[], &[" with refused calls"], |g| {
         let road = random::good_road(g);
-        let n = random::size(g);
-        let mut cells = random::densities(g, &road, n);
-        let sum = |list: &[u32]| list.iter().map(|&x| u64::from(x)).sum::<u64>();
-        let (start, mut entered, mut left) = (sum(&cells), 0, 0);
-        for _ in 0..50 {
-            let steps = g.from(0, welgadou::Road::horizon_ceiling() / 8) as usize;
-            let (up, down) = (random::densities(g, &road, steps), random::densities(g, &road, steps));
-            let mut next = vec![0; n];
-            let totals = welgadou::forecast(&road_of(road), &cells, &up, &down, steps as u32, &mut next);
-            let totals = totals.expect("accepted");
-            entered += totals.entered;
-            left += totals.left;
-            cells = next;
-            assert_eq!(start + entered, sum(&cells) + left, "road {road:?}");
+        let refused = chain(g, road, 0);
+        assert!(!refused.contains(&19), "road {road:?}");
+        (0, if refused.is_empty() { "" } else { " with refused calls" })
+    });
+}
+
+/// Totals that begin with room for some of what the chain moves: most chains fill them.
+#[test]
+fn year_after_year_until_full() {
+    cases("chain that fills its totals", 60, &[19], &[" with room left"], |g| {
+        let road = random::good_road(g);
+        let [divisor, free, _, _, critical] = road.map(u64::from);
+        let room = free * critical / divisor * u64::from(g.from(0, 2 * Road::horizon_ceiling()));
+        match chain(g, road, u64::MAX - room).contains(&19) {
+            true => (19, ""),
+            false => (0, " with room left"),
         }
-        (0, "")
     });
 }
 
@@ -770,12 +865,13 @@ fn road_a() {
     for (a, b, letter, units) in faces {
         let (letters, _, _, _) = raw::read(ROAD_A, &[b], a, 0, 2, 1).expect("accepted");
         assert_eq!(letters[0], letter, "the letter of ({a}, {b})");
-        let (_, entered, _) = raw::forecast(ROAD_A, &[b], &[a], &[0], 1, 1).expect("accepted");
+        let (_, [entered, _], _) = raw::forecast(ROAD_A, &[b], &[a], &[0], 1, [0, 0], 1).expect("accepted");
         assert_eq!(entered, units, "the units of ({a}, {b})");
     }
-    assert_eq!(raw::forecast(ROAD_A, &[101], &[0], &[0], 1, 1), Ok((vec![20], 0, 81)));
+    let moved = |cells: &[u32], up: u32| raw::forecast(ROAD_A, cells, &[up], &[0], 1, [0, 0], cells.len());
+    assert_eq!(moved(&[101], 0), Ok((vec![20], [0, 81], [0, 81])));
     let cells = [300, 150, 700];
-    assert_eq!(raw::forecast(ROAD_A, &cells, &[100], &[0], 1, 3), Ok((vec![220, 250, 600], 80, 160)));
+    assert_eq!(moved(&cells, 100), Ok((vec![220, 250, 600], [80, 160], [80, 160])));
     let (letters, modes, counts, queued) = raw::read(ROAD_A, &cells, 100, 0, 4, 3).expect("accepted");
     assert_eq!((letters, modes), (vec![2, 1, 0, 1], vec![6, 3, 2]));
     assert_eq!((counts, queued), (vec![0, 1, 1, 0, 0, 1, 0], 2));
@@ -809,11 +905,74 @@ fn fixed_halves() {
         ([4096, 4096, 4096, 1_000_000, 500_000], 499_999, 0, 499_999),
     ];
     for (road, a, b, units) in faces {
-        let (_, entered, _) = raw::forecast(road, &[b], &[a], &[0], 1, 1).expect("accepted");
+        let (_, [entered, _], _) = raw::forecast(road, &[b], &[a], &[0], 1, [0, 0], 1).expect("accepted");
         assert_eq!(entered, units, "road {road:?}, the units of ({a}, {b})");
     }
-    assert_eq!(raw::forecast(ROAD_A, &[7, 2, 9], &[1], &[0], 1, 3), Ok((vec![2, 6, 4], 1, 7)));
+    assert_eq!(raw::forecast(ROAD_A, &[7, 2, 9], &[1], &[0], 1, [0, 0], 3), Ok((vec![2, 6, 4], [1, 7], [1, 7])));
     assert_eq!(raw::settle([4, 1, 1, 4, 2], &[1], 0, 0, 9, 1), Ok((vec![1], 1, 0)));
+}
+
+/// The request on totals. On road A cell 101 takes 80 units from an end of 100, and lets 81 go to an end of 0.
+#[test]
+fn fixed_totals() {
+    const LARGEST: u64 = 18_446_744_073_709_551_615;
+    let accepted = [
+        ([0, 0], [80, 81]),
+        ([5000, 4000], [5080, 4081]),
+        ([LARGEST - 80, 0], [LARGEST, 81]),
+        ([0, LARGEST - 81], [80, LARGEST]),
+        ([LARGEST - 80, LARGEST - 81], [LARGEST, LARGEST]),
+    ];
+    for (so_far, totals) in accepted {
+        let done = Forecast { cells: vec![100], own: [80, 81], totals };
+        assert_eq!(forecast(ROAD_A, &[101], &[100], &[0], 1, so_far, 1), Ok(done), "from {so_far:?}");
+    }
+    let refused = [
+        [LARGEST - 79, 0],
+        [0, LARGEST - 80],
+        [LARGEST - 79, LARGEST - 81],
+        [LARGEST - 80, LARGEST - 80],
+        [LARGEST, LARGEST],
+    ];
+    for so_far in refused {
+        assert_eq!(forecast(ROAD_A, &[101], &[100], &[0], 1, so_far, 1), Err((19, 0)), "from {so_far:?}");
+    }
+
+    // A full total stays as it is where no unit moves: over no end, over the other end alone, in no step.
+    let (empty, full) = ([0, 0], [LARGEST, LARGEST]);
+    let unmoved = [
+        (0, vec![0], vec![0], full, Ok([0, 0])),
+        (101, vec![], vec![], full, Ok([0, 0])),
+        (101, vec![0], vec![0], [LARGEST, 0], Ok([0, 81])),
+        (101, vec![0], vec![0], full, Err((19, 0))),
+        (0, vec![100], vec![1000], [0, LARGEST], Ok([80, 0])),
+        (0, vec![100], vec![1000], full, Err((19, 0))),
+    ];
+    for (cell, up, down, so_far, own) in unmoved {
+        let answer = forecast(ROAD_A, &[cell], &up, &down, up.len() as u32, so_far, 1);
+        assert_eq!(answer.map(|done| done.own), own, "cell {cell}, up {up:?}, down {down:?}, from {so_far:?}");
+    }
+
+    // Every other fault is found before full totals.
+    let faulty = [
+        ([0, 4, 1, 1000, 200], vec![101], vec![100], vec![0], 1, 1, (1, 0)),
+        ([5, 6, 1, 1000, 200], vec![101], vec![100], vec![0], 1, 1, (2, 0)),
+        ([5, 4, 1, 1000, 1000], vec![101], vec![100], vec![0], 1, 1, (3, 0)),
+        ([5, 4, 1, 1000, 201], vec![101], vec![100], vec![0], 1, 1, (4, 0)),
+        (ROAD_A, vec![], vec![100], vec![0], 1, 0, (5, 0)),
+        (ROAD_A, vec![101], vec![100; 4097], vec![0; 4097], 4097, 1, (6, 0)),
+        (ROAD_A, vec![101], vec![100, 100], vec![0], 1, 1, (7, 0)),
+        (ROAD_A, vec![101], vec![100], vec![0], 1, 2, (8, 0)),
+        (ROAD_A, vec![101, 1001], vec![100], vec![0], 1, 2, (9, 2)),
+        (ROAD_A, vec![101], vec![100, 1001], vec![0, 0], 2, 1, (10, 1)),
+        (ROAD_A, vec![101], vec![100, 100], vec![0, 1001], 2, 1, (11, 1)),
+    ];
+    for (road, cells, up, down, horizon, out, refusal) in faulty {
+        for so_far in [empty, full] {
+            let answer = forecast(road, &cells, &up, &down, horizon, so_far, out);
+            assert_eq!(answer, Err(refusal), "from {so_far:?}");
+        }
+    }
 }
 
 /// The cases of the request on stations, to the bit.
@@ -910,7 +1069,7 @@ fn fixed_nearest() {
 fn refusals_have_words() {
     let text = |number| Refusal { number, place: 3 }.to_string();
     let reason = |number: u32| text(number).split_once(": ").expect("a reason").1.to_string();
-    for number in 1..=18 {
+    for number in 1..=19 {
         assert!(text(number).starts_with(&format!("refusal {number} at ")));
         assert!((1..number).all(|other| reason(other) != reason(number)));
         assert_ne!(reason(number), reason(u32::MAX));

@@ -1,6 +1,6 @@
-//! Inputs: a pseudo-random generator of our own, roads, densities, words, stations and the ways to damage them.
+//! Inputs: a pseudo-random generator of our own, roads, densities, totals, words, stations and the ways to damage them.
 
-use super::reference::{self, illegal, Station};
+use super::reference::{self, illegal, Station, Units};
 
 /// SplitMix64.
 pub struct Random(u64);
@@ -244,12 +244,34 @@ pub fn size(g: &mut Random) -> usize {
     }
 }
 
+/// A total that with so many units more is the largest, or next to it on either side, or past it by all of them.
+pub fn full_total(g: &mut Random, own: u64) -> u64 {
+    let most = u64::MAX - own;
+    g.of(&[most, most.saturating_sub(1), most.saturating_add(1), most.saturating_add(2), u64::MAX])
+}
+
+/// A total that takes so many units more: none so far, few, many, or the most that it can be.
+pub fn total_with_room(g: &mut Random, own: u64) -> u64 {
+    let most = u64::MAX - own;
+    match g.below(4) {
+        0 => 0,
+        1 => u64::from(g.from(0, 1_000_000)),
+        2 => g.bits().min(most),
+        _ => most,
+    }
+}
+
+/// Totals for a forecast with these units of its own: each by itself with room for them, or about full.
+pub fn totals(g: &mut Random, own: Units) -> Units {
+    own.map(|own| if g.one_in(4) { full_total(g, own) } else { total_with_room(g, own) })
+}
+
 /// A legal word, by a walk.
 pub fn legal_word(g: &mut Random, length: usize) -> Vec<u8> {
     let mut word: Vec<u8> = Vec::new();
     while word.len() < length {
         let next = g.below(3) as u8;
-        if word.last().map_or(true, |&last| !illegal(last, next)) {
+        if !word.last().is_some_and(|&last| illegal(last, next)) {
             word.push(next);
         }
     }

@@ -4,10 +4,12 @@ use std::ptr;
 
 #[rustfmt::skip]
 extern "C" {
+    #[link_name = "welgadou_forecast_2"]
     fn welgadou_forecast(
         divisor: u32, free: u32, wave: u32, jam: u32, critical: u32, cells: *const u32, cells_len: usize,
         upstream: *const u32, upstream_len: usize, downstream: *const u32, downstream_len: usize, horizon: u32,
-        out: *mut u32, out_len: usize, entered: *mut u64, left: *mut u64, place: *mut u32,
+        out: *mut u32, out_len: usize, entered: *mut u64, left: *mut u64, total_entered: *mut u64,
+        total_left: *mut u64, place: *mut u32,
     ) -> u32;
     fn welgadou_settle(
         divisor: u32, free: u32, wave: u32, jam: u32, critical: u32, cells: *const u32, cells_len: usize,
@@ -117,25 +119,30 @@ const WORD: u32 = PATTERN as u32;
 
 type Refused = (u32, u32);
 
+/// The cells, the call's own units and the totals, of both entered and left.
+#[allow(clippy::type_complexity)]
 pub fn forecast(
     [d, p, q, j, c]: [u32; 5],
     cells: &[u32],
     up: &[u32],
     down: &[u32],
     horizon: u32,
+    totals: [u64; 2],
     out: usize,
-) -> Result<(Vec<u32>, u64, u64), Refused> {
+) -> Result<(Vec<u32>, [u64; 2], [u64; 2]), Refused> {
     let (mut out_buffer, mut entered, mut left, mut place) = (Buffer::new(out, WORD), PATTERN, PATTERN, WORD);
+    let [mut total_entered, mut total_left] = totals;
     // SAFETY: every pointer is that of a list beside its length, or of one local value.
     #[rustfmt::skip]
     let number = unsafe {
         welgadou_forecast(
             d, p, q, j, c, lent(cells), cells.len(), lent(up), up.len(), lent(down), down.len(), horizon,
-            out_buffer.lent(), out, &mut entered, &mut left, &mut place,
+            out_buffer.lent(), out, &mut entered, &mut left, &mut total_entered, &mut total_left, &mut place,
         )
     };
-    let untouched = out_buffer.untouched() && entered == PATTERN && left == PATTERN;
-    answer(number, place, untouched, || (out_buffer.contents().to_vec(), entered, left))
+    let (own, increased) = ([entered, left], [total_entered, total_left]);
+    let untouched = out_buffer.untouched() && own == [PATTERN; 2] && increased == totals;
+    answer(number, place, untouched, || (out_buffer.contents().to_vec(), own, increased))
 }
 
 pub fn settle(

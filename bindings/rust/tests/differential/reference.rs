@@ -35,7 +35,7 @@ fn row_2(r: &Road) -> Option<Refused> {
 
 fn row_3(r: &Road) -> Option<Refused> {
     let jam_fits = 2 <= r.j && r.j <= 1_000_000;
-    let critical_fits = 1 <= r.c && r.c <= r.j - 1;
+    let critical_fits = 1 <= r.c && r.c < r.j;
     (!jam_fits || !critical_fits).then_some((3, 0))
 }
 
@@ -107,6 +107,12 @@ fn row_17(r: &Road, reading: Station) -> Option<Refused> {
 
 fn row_18(r: &Road, reading: Station) -> Option<Refused> {
     (!(0.0..=r.j as f64).contains(&estimate(r, reading))).then_some((18, 0))
+}
+
+/// "A total that would pass 18,446,744,073,709,551,615": of entered or of left, each increased by the call's own.
+fn row_19(totals: Units, own: Units) -> Option<Refused> {
+    let passes = |i: usize| u128::from(totals[i]) + u128::from(own[i]) > 18_446_744_073_709_551_615;
+    (passes(0) || passes(1)).then_some((19, 0))
 }
 
 /// The lowest number that applies, out of rows that were all looked at.
@@ -186,11 +192,27 @@ fn narrow(cells: &[i128]) -> Vec<u32> {
 
 // Level 1.
 
-#[derive(Debug, PartialEq)]
+/// Units over the face before the first cell and over that after the last one: entered and left.
+pub type Units = [u64; 2];
+
+/// The cells after the last step, the units of the forecast's own steps, and the totals since commissioning.
+#[derive(Clone, Debug, PartialEq)]
 pub struct Forecast {
     pub cells: Vec<u32>,
-    pub entered: u64,
-    pub left: u64,
+    pub own: Units,
+    pub totals: Units,
+}
+
+/// The cells after a step for each pair of ends, and the units of these steps.
+fn run(r: &Road, cells: &[u32], up: &[u32], down: &[u32]) -> (Vec<u32>, Units) {
+    let (mut x, mut entered, mut left) = (wide(cells), 0, 0);
+    for (&up, &down) in up.iter().zip(down) {
+        let (next, units) = step(r, &x, i128::from(up), i128::from(down));
+        x = next;
+        entered += units[0];
+        left += units[cells.len()];
+    }
+    (narrow(&x), [entered, left].map(|units| u64::try_from(units).expect("a count")))
 }
 
 pub fn forecast(
@@ -199,10 +221,10 @@ pub fn forecast(
     up: &[u32],
     down: &[u32],
     horizon: u32,
+    totals: Units,
     out: usize,
 ) -> Result<Forecast, Refused> {
     let r = &Road::new(r);
-    let n = cells.len();
     judge(&[
         row_1(r),
         row_2(r),
@@ -211,19 +233,15 @@ pub fn forecast(
         row_5(cells),
         row_6(horizon),
         row_7([up.len(), down.len()], horizon),
-        row_8(&[(out, n)]),
+        row_8(&[(out, cells.len())]),
         row_9(r, cells),
         row_10(r, up),
         row_11(r, down),
     ])?;
-    let (mut x, mut entered, mut left) = (wide(cells), 0, 0);
-    for t in 0..horizon as usize {
-        let (next, units) = step(r, &x, i128::from(up[t]), i128::from(down[t]));
-        x = next;
-        entered += units[0];
-        left += units[n];
-    }
-    Ok(Forecast { cells: narrow(&x), entered: entered as u64, left: left as u64 })
+    // Only an input that passes these has steps, and so units of its own: "checked last".
+    let (cells, own) = run(r, cells, up, down);
+    judge(&[row_19(totals, own)])?;
+    Ok(Forecast { cells, own, totals: [totals[0] + own[0], totals[1] + own[1]] })
 }
 
 #[derive(Debug, PartialEq)]

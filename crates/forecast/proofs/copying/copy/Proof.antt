@@ -15,24 +15,29 @@ abbrev μ-loop : tie.MeasureT-loop
 μ-loop cells out₀ i₀ out i = length cells - i
 
 loop-holds : tie.Need-loop-holds Inv-loop μ-loop
-loop-holds c = begins (c .args .cells .now) (c .args .out .now) (c .pre)
+loop-holds c =
+    let s = c .before .before in
+    begins (s .args .cells .now) (s .args .out .now) (s .pre .1)
+
+density-requires : tie.Need-density-requires Inv-loop μ-loop
+density-requires c κs = c .before .before .before .before .before .pre .0 (c .before .before .loop .i)
 
 slice-write-out : tie.Need-slice-write-out Inv-loop μ-loop
-slice-write-out c = let l = c .before .before .loop .inv .long in omega arith
+slice-write-out c = let l = c .before .before .before .loop .inv .long in omega arith
 
 loop-again : tie.Need-loop-again Inv-loop μ-loop
 loop-again c =
-    let l = c .before .before in
-    turns (l .before .args .cells .now) (l .loop .out) (l .loop .i) (l .loop .inv) (c .before .loop-test .taken)
+    let l = c .before .before .before in
+    rw (c .density .ensures) (turns (l .before .before .before .args .cells .now) (l .loop .out) (l .loop .i) (l .loop .inv) (c .before .before .loop-test .taken))
 
 same-length : tie.Need-same-length Inv-loop μ-loop
-same-length c = c .before .loop .inv .long ∙ sym (c .before .before .pre)
+same-length c = c .before .loop .inv .long ∙ sym (c .before .before .before .before .pre .1)
 
 returns : tie.Need-returns Inv-loop μ-loop
-returns c = ends (c .before .before .args .cells .now) (c .before .loop .out) (c .before .loop .i) (c .before .loop .inv) (c .loop-test .left)
+returns c = ends (c .before .before .before .before .args .cells .now) (c .before .loop .out) (c .before .loop .i) (c .before .loop .inv) (c .loop-test .left)
 
 pub copy-spec : {M : Type 1} → statement M
 copy-spec =
     tie.close
-    (tie.spec Inv-loop μ-loop loop-holds (λ c. search needs) (λ c. search needs) (λ c. search needs)
+    (tie.spec Inv-loop μ-loop loop-holds (λ c. search needs) (λ c. search needs) density-requires (λ c. search needs)
     slice-write-out (λ c. search needs) (λ c. search needs) loop-again same-length returns)

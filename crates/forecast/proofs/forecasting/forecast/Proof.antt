@@ -1,13 +1,15 @@
--- `forecast::forecast` meets its contract: refused, nothing is written; otherwise the copy is run.
-use mathlib.Core.Path.{_≡_}
-use Rattle.road.proofs.Parts.{same-number}
-use Rattle.road.proofs.Calls as Calls
+-- `forecast::forecast` meets its contract: refused by rows 1 to 11, nothing is written; where 19 may hold, the run is made aside; else in the output.
+use mathlib.Core.Path.{_∙_, sym, subst}
+use Prim.Native.Nat.{ℕ, _*_}
 use lib.ListN.{length}
-use Rattle.forecast.specs.Forecast.{forecastRefusal, Checked}
-use Rattle.forecast.proofs.Checked.{forecast-call}
-use Rattle.forecast.proofs.Answers.{refused}
-use Rattle.forecast.proofs.Calling.{run-asks, run-gives}
+use lib.Seq.{length-take-le}
 use borrow.Author.Needs.{needs}
+use Rattle.choice.specs.Choice.{or}
+use Rattle.road.specs.Ceilings.{jamCeiling}
+use Rattle.road.proofs.Parts.{same-number}
+use Rattle.forecast.specs.Forecast.{InputChecked, Fits, Forecasts}
+use Rattle.forecast.proofs.Checked.{input-checked, input-stands, fits-by}
+use Rattle.forecast.proofs.Answers.{forecast-refused, forecast-done, most-fits}
 use Rattle.forecast.proofs.forecasting.forecast.Statement.{statement}
 use Rattle.forecast.proofs.forecasting.forecast.Tie as tie
 
@@ -15,44 +17,77 @@ returns : tie.Need-returns
 returns c =
     let j = c .before .before in
     let s = j .before .before .before .before .before in
-    refused (s .args .road) (s .args .cells .now) (s .args .upstream .now) (s .args .downstream .now) (s .args .horizon) (s .args .out .now)
-    (j .judged .result) (j .judged .ensures) (c .if1 .taken)
+    forecast-refused (s .args .road) (s .args .cells .now) (s .args .upstream .now) (s .args .downstream .now) (s .args .horizon) (s .args .out .now) (s .args .totals)
+    (j .judged .result)
+    (input-stands (s .args .road) (s .args .cells .now) (s .args .upstream .now) (s .args .downstream .now) (s .args .horizon) (length (s .args .out .now)) (s .args .totals)
+    (j .judged .result) (j .judged .ensures) (c .if1 .taken))
+    (c .if1 .taken)
 
--- past the branch nothing is refused
-nothing : (c : tie.Else1) → let s = c .before .before .before .before .before .before .before in forecastRefusal (s .args .road) (s .args .cells .now) (s .args .upstream .now) (s .args .downstream .now) (s .args .horizon) (length (s .args .out .now)) .number ≡ 0
-nothing c = same-number (c .before .before .judged .ensures) (c .if1 .left)
-
-checked : (c : tie.Else1) → let s = c .before .before .before .before .before .before .before in Checked (s .args .road) (s .args .cells .now) (s .args .upstream .now) (s .args .downstream .now) (s .args .horizon) (length (s .args .out .now))
+-- past the branch rows 1 to 11 refuse nothing
+checked : (c : tie.Else1) → let s = c .before .before .before .before .before .before .before in
+    InputChecked (s .args .road) (s .args .cells .now) (s .args .upstream .now) (s .args .downstream .now) (s .args .horizon) (length (s .args .out .now))
 checked c =
     let s = c .before .before .before .before .before .before .before in
-    Calls.checked (forecast-call (s .args .road) (s .args .cells .now) (s .args .upstream .now) (s .args .downstream .now) (s .args .horizon) (length (s .args .out .now))) (nothing c)
+    input-checked (s .args .road) (s .args .cells .now) (s .args .upstream .now) (s .args .downstream .now) (s .args .horizon) (length (s .args .out .now))
+    (same-number (c .before .before .judged .ensures) (c .if1 .left))
 
-copy-requires : tie.Need-copy-requires
-copy-requires c κs = checked (c .before) .output-long
+-- as many steps as upstream ends
+by-ends : (c : tie.Else1) → let s = c .before .before .before .before .before .before .before in
+    InputChecked (s .args .road) (s .args .cells .now) (s .args .upstream .now) (s .args .downstream .now) (length (s .args .upstream .now)) (length (s .args .out .now))
+by-ends c =
+    let s = c .before .before .before .before .before .before .before in
+    subst (λ (t : ℕ). InputChecked (s .args .road) (s .args .cells .now) (s .args .upstream .now) (s .args .downstream .now) t (length (s .args .out .now)))
+    (sym (checked c .ups-long)) (checked c)
 
-of-requires : tie.Need-of-requires
-of-requires c κs = checked (c .before .before .before .before) .accepted
+array-borrow-prefix-work : tie.Need-array-borrow-prefix-work
+array-borrow-prefix-work c = checked (c .before .before .before .before) .cells-high
 
-run-requires : tie.Need-run-requires
-run-requires c κs =
-    let copied = c .before .before .before .before in
-    let go = copied .before .before in
-    let s = go .before .before .before .before .before .before .before in
-    run-asks (s .args .road) (c .before .of .result) (c .before .of .ensures) (s .args .cells .now) (copied .copy .last .1 .0) (copied .copy .ensures)
-    (s .args .upstream .now) (s .args .downstream .now) (s .args .horizon) (length (s .args .out .now)) (checked go)
+-- the list lent is as long as the cells, which are few enough for it
+slice-aggregate-ran-aside : tie.Need-slice-aggregate-ran-aside
+slice-aggregate-ran-aside c = sym (length-take-le _ _ (checked (c .before .before .before .before .before) .cells-high))
+
+ran-aside-requires : tie.Need-ran-aside-requires
+ran-aside-requires c κs =
+    let go = c .before .before .before .before .before .before in
+    (by-ends go, length-take-le _ _ (checked go .cells-high))
 
 returns-2 : tie.Need-returns-2
 returns-2 c =
-    let ran = c .before .before in
-    let made = ran .before .before in
-    let copied = made .before .before .before in
-    let go = copied .before .before in
+    let aside = c .before .before .before in
+    let go = aside .before .before .before .before .before .before .before in
     let s = go .before .before .before .before .before .before .before in
-    run-gives (s .args .road) (made .of .result) (made .of .ensures) (s .args .cells .now) (copied .copy .last .1 .0) (copied .copy .ensures)
-    (s .args .upstream .now) (s .args .downstream .now) (s .args .horizon) (s .args .out .now) (nothing go) (ran .run .last .1 .0) (ran .run .result) (ran .run .ensures)
+    subst (λ (t : ℕ). Forecasts (s .args .road) (s .args .cells .now) (s .args .upstream .now) (s .args .downstream .now) t (s .args .totals) (s .args .out .now) (aside .ran-aside .last .1 .1 .1 .1 .1 .1 .0) (aside .ran-aside .result))
+    (checked go .ups-long) (aside .ran-aside .ensures)
+
+ran-requires : tie.Need-ran-requires
+ran-requires c κs = by-ends (c .before .before .before .before .before)
+
+-- there is room for the most that the steps can move, and so for what they moved
+fits : (c : tie.After-ran) → let s = c .before .before .before .before .before .before .before .before .before .before .before .before .before in Fits (s .args .totals) (c .ran .result)
+fits c =
+    let test = c .before .before in
+    let e = test .before in
+    let go = e .before .before .before in
+    let s = go .before .before .before .before .before .before .before in
+    let most = s .args .horizon * jamCeiling in
+    most-fits (s .args .road) (s .args .cells .now) (s .args .upstream .now) (s .args .downstream .now) (s .args .horizon) (s .args .out .now) (s .args .totals)
+    (checked go) (c .ran .ensures)
+    (fits-by (s .args .totals) (record { entered = most; left = most })
+    (sym (e .either .ensures ∙ λ i. or (e .before .before .would-pass .ensures i) (e .before .would-pass2 .ensures i)) ∙ test .if2 .left))
+
+carried-requires : tie.Need-carried-requires
+carried-requires c κs = fits (c .before .before)
+
+returns-3 : tie.Need-returns-3
+returns-3 c =
+    let ran = c .before .before .before in
+    let go = ran .before .before .before .before .before .before in
+    let s = go .before .before .before .before .before .before .before in
+    rw (c .carried .ensures) (forecast-done (s .args .road) (s .args .cells .now) (s .args .upstream .now) (s .args .downstream .now) (s .args .horizon) (s .args .out .now) (s .args .totals)
+    (checked go) (ran .ran .ensures) (fits ran))
 
 pub forecast-spec : {M : Type 1} → statement M
 forecast-spec =
     tie.close
-    (tie.spec (λ c κs. search needs) returns copy-requires of-requires run-requires (λ c. search needs)
-    returns-2)
+    (tie.spec (λ c κs. search needs) returns (λ c. search needs) (λ c. search needs) (λ c κs. search needs) (λ c κs. search needs) (λ c κs. search needs)
+    array-borrow-prefix-work slice-aggregate-ran-aside ran-aside-requires (λ c. search needs) returns-2 ran-requires carried-requires (λ c. search needs) returns-3)

@@ -7,7 +7,7 @@ use lib.ListN.{length}
 use Rattle.road.specs.Ceilings.{cellsCeiling, horizonCeiling}
 use Rattle.road.proofs.Parts.{same-number}
 use Rattle.road.proofs.Table.{next-row}
-use Rattle.forecast.specs.Forecast.{shapeRefusal, forecastRefusal}
+use Rattle.forecast.specs.Forecast.{shapeRefusal, inputRefusal}
 use Rattle.forecast.proofs.Checked.{shape-stands, shape-short}
 use borrow.Author.Needs.{needs}
 use Rattle.forecast.proofs.forecasting.judged.Statement.{statement}
@@ -53,7 +53,7 @@ cast-or-if-3 c =
     omega (arith, down .first-above3 .ensures .inside)
 
 returns-2 : tie.Need-returns-2
-unfolding shapeRefusal forecastRefusal
+unfolding shapeRefusal inputRefusal
 returns-2 c =
     let down = c .before .before .before in
     let up = down .before in

@@ -6,7 +6,7 @@ use Rattle.road.proofs.Calls as Calls
 use Rattle.forecast.specs.Settle.{settleRefusal, SettleChecked}
 use Rattle.forecast.proofs.Checked.{settle-call}
 use Rattle.forecast.proofs.Answers.{settle-refused}
-use Rattle.forecast.proofs.Calling.{settle-asks, settle-gives}
+use Rattle.forecast.proofs.Calling.{in-range, settle-asks, settle-gives}
 use borrow.Author.Needs.{needs}
 use Rattle.forecast.proofs.settling.settle.Statement.{statement}
 use Rattle.forecast.proofs.settling.settle.Tie as tie
@@ -28,7 +28,10 @@ checked c =
     Calls.checked (settle-call (s .args .road) (s .args .cells .now) (s .args .up) (s .args .down) (s .args .horizon) (length (s .args .out .now))) (nothing c)
 
 copy-requires : tie.Need-copy-requires
-copy-requires c κs = checked (c .before) .output-long
+copy-requires c κs =
+    let s = c .before .before .before .before .before .before in
+    let ok = checked (c .before) in
+    (in-range (s .args .cells .now) (ok .accepted) (ok .cells-below), ok .output-long)
 
 of-requires : tie.Need-of-requires
 of-requires c κs = checked (c .before .before .before .before) .accepted
