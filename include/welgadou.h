@@ -54,7 +54,9 @@
  *
  * A list of length 0 may come with a null pointer: nothing is read or written through it. Other pointers are never null.
  * Nothing else is owed. The library keeps nothing between calls, takes no heap and calls no other library, so that
- * several threads may call it at once, each with memory of its own.
+ * several threads may call it at once, each with memory of its own. The stack of the largest call, welgadou_forecast, was
+ * measured at up to 1,680 bytes; 1,024 of them are a working list of 256 densities, the only list of densities that the
+ * library has besides yours. Every other call was measured at up to 496 bytes, and a test holds it to 512.
  *
  * No call throws, and none calls back. The library has no unwind tables: neither an exception, such as one thrown by a
  * signal's handler or by the cancellation of a thread, nor a debugger finds its way out of a call that it interrupts.
@@ -143,8 +145,8 @@
 extern "C" {
 #endif
 
-/* The version of this header: ten thousand a major, a hundred a minor version. 0.6.0 is 600. */
-#define WELGADOU_VERSION 600
+/* The version of this header: ten thousand a major, a hundred a minor version. 0.6.1 is 601. */
+#define WELGADOU_VERSION 601
 
 /* Returns: the version of the library that is linked, WELGADOU_VERSION where it is the one of this header. */
 uint32_t welgadou_version(void);

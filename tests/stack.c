@@ -1,6 +1,8 @@
-/* The stack that each call takes, held to WELGADOU_STACK: every call of the header is made on a stack of its own that was
- * painted before, and the paint that is gone says how deep the call went. Prints the deepest of each call; fails where one
- * is above the header's figure.
+/* The stack that each call takes: every call of the header is made on a stack of its own that was painted before, and the
+ * paint that is gone says how deep the call went. Prints the deepest of each call. Fails where the forecast, which may hold
+ * one working list of 256 densities, takes more than WELGADOU_STACK, where any other call, which holds none, takes more than
+ * NO_LIST, and where no forecast was made in the working list. A list is 1,024 bytes: one more that is held during a run, or
+ * one in any other call, is noticed.
  *
  *     gcc -std=gnu99 -O2 -Iinclude tests/stack.c target/staticlib/libwelgadou.a -o stack
  */
@@ -10,7 +12,7 @@
 
 #include "welgadou.h"
 
-enum { CELLS = WELGADOU_CELLS_CEILING, STEPS = WELGADOU_HORIZON_CEILING, PAINTED = 1 << 16, PAINT = 0xa5 };
+enum { CELLS = WELGADOU_CELLS_CEILING, STEPS = WELGADOU_HORIZON_CEILING, PAINTED = 1 << 16, PAINT = 0xa5, NO_LIST = 512 };
 
 static unsigned char stack[PAINTED] __attribute__((aligned(64)));
 static ucontext_t here, there;
@@ -110,21 +112,21 @@ static void numbers(void)
 static struct {
     const char *name;
     void (*make)(void);
-    size_t deepest;
+    size_t most, deepest;
     unsigned accepted, refused;
 } calls[] = {
-    { "forecast", forecast, 0, 0, 0 },
-    { "settle", settle, 0, 0, 0 },
-    { "read", read_state, 0, 0, 0 },
-    { "fit", fit, 0, 0, 0 },
-    { "rows", apply_rows, 0, 0, 0 },
-    { "candidate", candidate, 0, 0, 0 },
-    { "count", count, 0, 0, 0 },
-    { "station_density", station_density, 0, 0, 0 },
-    { "station_flow", station_flow, 0, 0, 0 },
-    { "station_speed", station_speed, 0, 0, 0 },
-    { "nearest", nearest, 0, 0, 0 },
-    { "version, ceilings", numbers, 0, 0, 0 },
+    { "forecast", forecast, WELGADOU_STACK, 0, 0, 0 },
+    { "settle", settle, NO_LIST, 0, 0, 0 },
+    { "read", read_state, NO_LIST, 0, 0, 0 },
+    { "fit", fit, NO_LIST, 0, 0, 0 },
+    { "rows", apply_rows, NO_LIST, 0, 0, 0 },
+    { "candidate", candidate, NO_LIST, 0, 0, 0 },
+    { "count", count, NO_LIST, 0, 0, 0 },
+    { "station_density", station_density, NO_LIST, 0, 0, 0 },
+    { "station_flow", station_flow, NO_LIST, 0, 0, 0 },
+    { "station_speed", station_speed, NO_LIST, 0, 0, 0 },
+    { "nearest", nearest, NO_LIST, 0, 0, 0 },
+    { "version, ceilings", numbers, NO_LIST, 0, 0, 0 },
 };
 enum { CALLS = sizeof calls / sizeof *calls };
 
@@ -215,15 +217,16 @@ int main(void)
             }
     }
     for (i = 0; i < CALLS; i++) {
-        printf("%-20s %4lu bytes, %u accepted, %u refused\n", calls[i].name, (unsigned long)calls[i].deepest,
-               calls[i].accepted, calls[i].refused);
-        if (calls[i].deepest > WELGADOU_STACK)
+        printf("%-20s %4lu bytes of at most %4lu, %u accepted, %u refused\n", calls[i].name,
+               (unsigned long)calls[i].deepest, (unsigned long)calls[i].most, calls[i].accepted, calls[i].refused);
+        if (calls[i].deepest > calls[i].most)
             failed++;
     }
     if (full == 0) {
         printf("no forecast was refused with 19\n");
         failed++;
     }
-    printf("%s: a call takes at most %d bytes of stack\n", failed ? "FAILED" : "ok", WELGADOU_STACK);
+    printf("%s: the forecast takes at most %d bytes of stack, any other call %d\n", failed ? "FAILED" : "ok",
+           WELGADOU_STACK, NO_LIST);
     return failed != 0;
 }

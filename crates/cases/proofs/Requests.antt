@@ -63,4 +63,5 @@ requested = record {
   totals-largest = refl;
   totals-past = refl;
   totals-chain = refl;
+  alternate = refl;
 }

@@ -1,4 +1,4 @@
--- The values of document 02, request by request: one record, one field a value. E1, E3 and E4 print none: their values are worked from their words. Those of E2 on
+-- The values of document 02, request by request: one record, one field a value. E1, E3, E4 and E5 print none: their values are worked from their words. Those of E2 on
 -- road A are among the starred cases.
 use mathlib.Core.Path.{_≡_}
 use mathlib.Core.List.{List, [], _∷_}
@@ -8,6 +8,7 @@ use lib.Ieee.{Float, binary64, ofBits}
 use Rattle.road.specs.Table.{refused}
 use Rattle.road.specs.declared.Road.{Road}
 use Rattle.flux.specs.Face.{numerator, units}
+use Rattle.scheme.specs.Rounded.{roundStep}
 use Rattle.scheme.specs.declared.many_steps.Totals.{Totals}
 use Rattle.forecast.specs.declared.forecasting.ForecastAnswer.{ForecastAnswer}
 use Rattle.forecast.specs.declared.forecasting.ForecastAnswer.the-variants as Forecast
@@ -59,6 +60,10 @@ step up down = record { road = roadA; horizon = 1; ups = up ∷ []; downs = down
 abbrev pub site : List ℕ → Totals → Site
 site cells so-far = record { cells = cells; totals = so-far }
 
+-- E5: the road on which alternate cells change places: D, p, q all 1, J 2, C 1
+abbrev pub unitRoad : Road
+unitRoad = record { divisor = 1; free = 1; wave = 1; jam = 2; critical = 1 }
+
 pub record Requested : Type 0 where
   -- E1, station readings
   pub density-1000 : gives (Density (whole 1000)) 1000
@@ -78,3 +83,5 @@ pub record Requested : Type 0 where
   pub totals-largest : oneStepOn (totals 7 18446744073709551534) ≡ made (totals 0 81) (totals 7 18446744073709551615)
   pub totals-past : oneStepOn (totals 7 18446744073709551535) ≡ Forecast.Refused (refused 19 0)
   pub totals-chain : afterAll (site three none) (step 100 0 ∷ step 100 0 ∷ step 1001 0 ∷ step 120 0 ∷ step 150 900 ∷ []) ≡ site (145 ∷ 336 ∷ 545 ∷ []) (totals 376 500)
+  -- E5, what the one list then holds: all faces are worked from the old densities. With an inflow from the new left cell all would be 0
+  pub alternate : roundStep unitRoad 0 0 (1 ∷ 0 ∷ 1 ∷ 0 ∷ []) ≡ 0 ∷ 1 ∷ 0 ∷ 1 ∷ []

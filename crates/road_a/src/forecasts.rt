@@ -16,7 +16,7 @@ use worked::roads;
 use worked::roads::A;
 
 // One forecast and what it left in the output.
-fn show(
+pub fn show(
     page: &mut Page,
     line: usize,
     road: Road,

@@ -2,7 +2,7 @@
 use printing::page::Page;
 use printing::say;
 
-const FORMS: [u8; 1586] = *b"\
+const FORMS: [u8; 1871] = *b"\
 : entered %, left %
 , totals % %
 : moves %
@@ -70,6 +70,14 @@ T 1, both totals the largest
 downstream above J, both totals the largest
 chain, ends % and %
 , cells
+the same cells
+other cells
+cells 1 0 1 0 of the road with D p q 1, ends 0
+one cell 101, ends 0, T 1
+settling one cell 101, ends 0, T 1
+256 cells 7 2 9 in turn between 1 and 0, T 1
+settling 256 cells 7 2 9 in turn between 1 and 0, T 1
+256 cells 7 2 9 in turn, total entered the largest
 ";
 
 // What follows a name.
@@ -116,6 +124,12 @@ pub const FULL: usize = LONG_SETTLINGS + 2;
 pub const CHAIN: usize = FULL + 8;
 
 pub const CELLS: usize = CHAIN + 1;
+
+pub const SAME: usize = CELLS + 1;
+
+pub const OTHER: usize = SAME + 1;
+
+pub const IN_PLACE: usize = OTHER + 1;
 
 // A form, with the numbers that it asks for.
 pub fn say(page: &mut Page, line: usize, a: u64, b: u64) {

@@ -1,7 +1,9 @@
-// The worked cases of Level 1, run: roads, faces, forecasts, settling runs, totals. One line a case, held to stdout.
+// The worked cases of Level 1, run: roads, faces, forecasts, settling runs, totals, the step in its one list. One line a
+// case and a comparison, held to stdout.
 mod faces;
 mod forecasts;
 mod forms;
+mod in_place;
 mod roads;
 mod settlings;
 mod totals;
@@ -18,5 +20,6 @@ fn main() {
     settlings::long_cases(&mut page);
     totals::cases(&mut page);
     totals::chain(&mut page);
+    in_place::cases(&mut page);
     page::sent(&mut page);
 }

@@ -28,7 +28,7 @@ fn answered(page: &mut Page, answer: SettleAnswer) {
 }
 
 // One settling run and what it left in the output.
-fn show(
+pub fn show(
     page: &mut Page,
     line: usize,
     road: Road,

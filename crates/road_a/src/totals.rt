@@ -14,7 +14,8 @@ use worked::print;
 use worked::roads;
 use worked::roads::A;
 
-const LARGEST: u64 = 18446744073709551615;
+// The largest total.
+pub const LARGEST: u64 = 18446744073709551615;
 
 fn counted(page: &mut Page, d: Record) {
     let own = d.own;

@@ -11,7 +11,9 @@ use Rattle.road.specs.declared.Road.{Road}
 use Rattle.scheme.specs.Advance.{entering, leaving, faceFlows}
 use Rattle.scheme.specs.Rounded.{moved, roundStep, roundRun, entered, left}
 use Rattle.scheme.specs.Settling.{after}
+use Rattle.scheme.specs.Calls.{Stepped}
 use Rattle.scheme.specs.Exact.{exactFlow, exactStep, exactRun}
+use Rattle.scheme.specs.declared.one_step.Moved.{Moved}
 use Rattle.scheme.specs.ByFaces.{unitsOver, StepByFaces, RunByFaces, none, step, flowOver, ExactStepByFaces, ExactRunByFaces, exact-none, exact-step}
 use Rattle.scheme.proofs.Faces.{flow-at, enters-first, leaves-last}
 use Rattle.scheme.proofs.Shape.{stepped-length}
@@ -38,6 +40,11 @@ module _ (r : Road) where
           let one = round-cell r ok u d xs k h in
           rw add-one (omega arith);
     }
+
+    -- so of the code's step by its contract alone, with the units over face 0 and face n: every face is worked from the densities that the list held before, though each new one is written over an old one
+    pub step-faces : {u d : ℕ} {xs ys : List ℕ} {m : Moved} → Stepped (moved r) u d xs ys m
+        → StepByFaces r u d xs ys × ((m .entered ≡ unitsOver r u d xs 0) × (m .left ≡ unitsOver r u d xs (length xs)))
+    step-faces {u} {d} {xs} s = (rw (s .cells) (step-by-faces u d xs), (s .entered ∙ enters u d xs, s .left ∙ leaves u d xs))
 
     pub run-by-faces : (ups downs xs : List ℕ) → length ups ≡ length downs
         → RunByFaces r ups downs xs (roundRun r ups downs xs) (entered r ups downs xs) (left r ups downs xs)

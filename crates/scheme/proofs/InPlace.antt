@@ -14,6 +14,9 @@ use Rattle.scheme.specs.Calls.{Stepped}
 use Rattle.scheme.proofs.Range.{in-room}
 use Rattle.scheme.proofs.Ahead.{ahead-is, enters}
 
+-- Why one list is enough (document 02, E5: "The step may not hold a second list of old densities"). With the list's places from 0, place i lies between faces i and i + 1. The densities before i are new
+-- and not read again, those from i on are old, and `inflow` is the flow over face i, worked from old densities: so `cells` says that the new ones in front, and what working on from the rest and this inflow
+-- gives, are the step of the old list, and `left` the same of face n. A turn reads place i before it is written, and face i + 1 needs places i and i + 1 alone, both still old
 pub record StepUnderway (j : ℕ) (F : ℕ → ℕ → ℕ → ℕ) (up down : ℕ) (old : List ℕ) (first : ℕ) (x : List ℕ) (i inflow : ℕ) : Type 0 where
   pub long : length x ≡ length old
   pub inside : i < length x

@@ -31,7 +31,8 @@ pub record ReadyToRun (p : Pace) (xs ups downs : List ℕ) : Type 0 where
   pub same : length downs ≡ length ups
   pub short : length ups ≤ horizonCeiling
 
--- one step of the flow F (face, upstream density, downstream density) from the list xs has left the list ys, with the units over face 0 and face n
+-- one step of the flow F (face, upstream density, downstream density) from the list xs has left the list ys, with the units over face 0 and face n. With the flow `moved r` it is what document 02, E5, asks:
+-- the step "takes one list, and its contract says that this then holds document 01's step, rounded as E2 says, of what it held". xs is what the list held, ys what it holds then; `stepped` works all faces from xs
 pub record Stepped (F : ℕ → ℕ → ℕ → ℕ) (up down : ℕ) (xs ys : List ℕ) (m : Moved) : Type 0 where
   pub cells : ys ≡ stepped 1 F up down xs
   pub entered : m .entered ≡ entering F up down xs

@@ -9,8 +9,9 @@ pub struct Moved {
     pub left: u32,
 }
 
-// Internal: the list then holds document 01's step of what it held. Carries the inflow from face to face; the last cell
-// stands outside the loop and each density is read where it is used, so that the loop can be vectorized.
+// Internal: the step as document 02, E5, asks for it. "It takes one list, and its contract says that this then holds
+// document 01's step, rounded as E2 says, of what it held." One number, the inflow, is carried from cell to cell. The last
+// cell stands outside the loop and each density is read where it is used, so that the loop can be vectorized.
 pub fn step(pace: Pace, cells: &mut [u32], up: u32, down: u32) -> Moved
     requires { ⌜ Ready pace (now cells) up down ⌝ }
     ensures { λ m. ⌜ Stepped (moved (pace .road)) up down (now (cells .entry)) (now (cells .exit)) m ⌝ }

@@ -8,8 +8,8 @@ abbrev pub minor : ℕ
 minor = 6
 
 abbrev pub patch : ℕ
-patch = 0
+patch = 1
 
--- 0.6.0 is 600: ten thousand a major, a hundred a minor version
+-- 0.6.1 is 601: ten thousand a major, a hundred a minor version
 abbrev pub versionNumber : ℕ
 versionNumber = major * 10000 + minor * 100 + patch

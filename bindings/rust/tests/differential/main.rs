@@ -765,6 +765,36 @@ fn demand_3() {
     });
 }
 
+/// A forecast of T steps is T forecasts of one step, each fed the last one's cells and totals, whichever list it steps in:
+/// the output or, near the largest total, the working list. Where 19 refuses the whole, it refuses one of the steps.
+#[test]
+fn one_step_at_a_time() {
+    cases("one step at a time", 20_000, &[19], &[" with room", " near the largest"], |g| {
+        let road = random::good_road(g);
+        let n = random::size(g);
+        let longest = if g.one_in(20) { Road::horizon_ceiling() as usize / 4 } else { 40 };
+        let steps = g.below(longest + 1);
+        let start = random::densities(g, &road, n);
+        let [up, down] = [(); 2].map(|()| random::densities(g, &road, steps));
+        let whole_from = |totals| raw::forecast(road, &start, &up, &down, steps as u32, totals, n);
+        let (_, own, _) = whole_from([0, 0]).expect("accepted");
+        let totals = random::totals(g, own);
+
+        let mut stepwise = Ok((start.clone(), [0, 0], totals));
+        for (&u, &d) in up.iter().zip(&down) {
+            stepwise = stepwise.and_then(|(cells, own, totals)| {
+                let (cells, more, totals) = raw::forecast(road, &cells, &[u], &[d], 1, totals, n)?;
+                Ok((cells, [own[0] + more[0], own[1] + more[1]], totals))
+            });
+        }
+        let whole = whole_from(totals);
+        assert_eq!(whole, stepwise, "road {road:?}, cells {start:?}, up {up:?}, down {down:?}, totals {totals:?}");
+        let most = steps as u64 * u64::from(Road::jam_ceiling());
+        let room = totals.iter().all(|&total| u64::MAX - total >= most);
+        kind_of(&whole, |_| if room { " with room" } else { " near the largest" })
+    });
+}
+
 /// A chain of forecasts as a site makes it: one variable for the totals, which are both `begun` at first, and the last
 /// accepted call's cells. After every call, refused or not, the units at the beginning plus those entered are the units on
 /// the road plus those left. Hands back the numbers of the refused calls, of which some were damaged.

@@ -16,6 +16,19 @@ Inv-loop pace x₀ up down n first inflow₀ i₀ x inflow i = StepUnderway (pac
 abbrev μ-loop : tie.MeasureT-loop
 μ-loop pace x₀ up down n first inflow₀ i₀ x inflow i = length x - i
 
+-- the loop's turn and the end stand first: a wrong step fails there
+loop-again : tie.Need-loop-again Inv-loop μ-loop
+loop-again c =
+    let l = c .before .before .before .before in
+    let s = l .before .before .before .before in
+    turns (lawful (s .pre)) (l .loop .inv) (let n = l .loop .inv .long in omega arith) (c .flow2 .ensures)
+
+returns : tie.Need-returns Inv-loop μ-loop
+returns c =
+    let l = c .before .before .before in
+    let s = l .before .before .before .before in
+    ends (lawful (s .pre)) (l .loop .inv) (let n = l .loop .inv .long in omega arith) (c .flow3 .ensures)
+
 flow-requires : tie.Need-flow-requires Inv-loop μ-loop
 flow-requires c κs =
     let s = c .before .before in
@@ -41,12 +54,6 @@ sub-cells c =
 loop-less : tie.Need-loop-less Inv-loop μ-loop
 loop-less c = simp length-set (let i = c .before .before .before .before .loop .inv .inside in omega arith)
 
-loop-again : tie.Need-loop-again Inv-loop μ-loop
-loop-again c =
-    let l = c .before .before .before .before in
-    let s = l .before .before .before .before in
-    turns (lawful (s .pre)) (l .loop .inv) (let n = l .loop .inv .long in omega arith) (c .flow2 .ensures)
-
 flow-requires-3 : tie.Need-flow-requires-3 Inv-loop μ-loop
 flow-requires-3 c κs =
     let l = c .before .before in
@@ -58,12 +65,6 @@ sub-cells-2 c =
     let l = c .before .before .before in
     let s = l .before .before .before .before in
     omega (arith, c .flow3 .ensures, out-holds (lawful (s .pre)) 0 (getD (l .loop .cells) (l .loop .i) 0) (s .args .down))
-
-returns : tie.Need-returns Inv-loop μ-loop
-returns c =
-    let l = c .before .before .before in
-    let s = l .before .before .before .before in
-    ends (lawful (s .pre)) (l .loop .inv) (let n = l .loop .inv .long in omega arith) (c .flow3 .ensures)
 
 pub step-spec : {M : Type 1} → statement M
 step-spec =
