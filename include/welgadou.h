@@ -145,8 +145,8 @@
 extern "C" {
 #endif
 
-/* The version of this header: ten thousand a major, a hundred a minor version. 0.6.1 is 601. */
-#define WELGADOU_VERSION 601
+/* The version of this header: ten thousand a major, a hundred a minor version. 0.7.0 is 700. */
+#define WELGADOU_VERSION 700
 
 /* Returns: the version of the library that is linked, WELGADOU_VERSION where it is the one of this header. */
 uint32_t welgadou_version(void);
@@ -277,7 +277,8 @@ uint32_t welgadou_settle(uint32_t divisor, uint32_t free, uint32_t wave, uint32_
  * Out:      letters, letters_len:         the state's word, one code a face; letters_len is n + 1.
  *           modes, modes_len:             the mode of each cell, 1 to 7; modes_len is n.
  *           counts:                       seven numbers: counts[m - 1] cells are in mode m. Their sum is n.
- *           queued:                       how many cells are in the modes 1, 2 and 3.
+ *           queued:                       how many cells are denser than critical; a cell at critical is not queued.
+ *                                         (Before version 0.7.0 it was how many are in the modes 1, 2 and 3.)
  *           place:                        0, or the place of the refusal.
  * Refusals: 1 to 5, 8 to 11; 8 where either output has the wrong length.
  */

@@ -2,7 +2,7 @@
 
 use crate::{ffi, Refusal, Road};
 
-/// How many cells of a state are in each mode.
+/// How many cells of a state are in each mode, and how many are queued.
 ///
 /// ```
 /// let road = welgadou::Road { divisor: 5, free: 4, wave: 1, jam: 1000, critical: 200 };
@@ -14,7 +14,8 @@ use crate::{ffi, Refusal, Road};
 pub struct Counts {
     /// The cells in mode 1, 2, up to 7. Their sum is the number of cells.
     pub modes: [u32; 7],
-    /// The cells in the modes 1, 2 and 3.
+    /// How many cells are denser than critical; a cell at critical is not queued. Up to version 0.6 it was how many are in
+    /// the modes 1, 2 and 3.
     pub queued: u32,
 }
 
@@ -30,6 +31,10 @@ pub struct Counts {
 /// assert_eq!(letters, [D, L, W, L]);
 /// assert_eq!(modes, [6, 3, 2]);
 /// assert_eq!(counts.queued, 2);
+///
+/// // The first two cells, each by itself between the same neighbours: 300 is above critical, 150 is not.
+/// assert_eq!(welgadou::read(&road, &[300], 100, 150, &mut [0; 2], &mut [0])?.queued, 1);
+/// assert_eq!(welgadou::read(&road, &[150], 300, 700, &mut [0; 2], &mut [0])?.queued, 0);
 /// # Ok::<(), welgadou::Refusal>(())
 /// ```
 pub fn read(

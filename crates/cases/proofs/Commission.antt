@@ -341,6 +341,7 @@ demand2 = record {
   counts = λ x c. ap (λ (k : Counts). k .modes) (reading-says x c .counted);
   counts-sum = λ x c. reading-says x c .counts-sum;
   queued = λ x c. reading-says x c .queued;
+  signs = λ x c. let s = reading-says x c .signs in (s .least, s .most);
   words = λ x c. (count-says x c .0, count-says x c .1 .number);
   words-every = λ x c. count-says x c .1 .every;
   words-only = λ x c. count-says x c .1 .only;

@@ -18,6 +18,9 @@ use Rattle.scheme.specs.Sums.{sameList}
 use Rattle.scheme.specs.Word.{wordOf}
 use Rattle.forecast.specs.Forecast.{forecastRefusal, forecastAnswer, forecastCells}
 use Rattle.forecast.specs.Chain.{afterAll}
+use Rattle.modes.specs.Modes.{modeOf, modesOf}
+use Rattle.modes.specs.Judging.{readRefusal}
+use Rattle.modes.specs.Reading.{countOf, countsOf, queuedOf, readAnswer}
 use Rattle.site.specs.Nearest.{alters, searched, change, inserted, rankedTo, ranking}
 use Rattle.site.specs.Station.{whole, speedDensity, estimateOf, badNumber, badGiven, tooFast, badResult, stationRefusal, stationAnswer}
 use Rattle.site.specs.declared.stations.StationReading.{StationReading}
@@ -47,7 +50,7 @@ unfolding tests orIf
 too-fast x g f = by-tests x g f refl refl
 
 pub requested : Requested
-unfolding sending receiving numerator units orIf roadRefusal firstAbove ahead advance outflow entering leaving stepped roundRun entered left forecastRefusal forecastAnswer forecastCells afterAll inW inL letter wordOf sameList alters searched change inserted rankedTo ranking round sum add mul div lt eq le ne ofInt ofBits speedDensity estimateOf badNumber badGiven tooFast
+unfolding sending receiving numerator units orIf roadRefusal firstAbove readRefusal readAnswer countOf countsOf queuedOf modeOf modesOf ahead advance outflow entering leaving stepped roundRun entered left forecastRefusal forecastAnswer forecastCells afterAll inW inL letter wordOf sameList alters searched change inserted rankedTo ranking round sum add mul div lt eq le ne ofInt ofBits speedDensity estimateOf badNumber badGiven tooFast
 requested = record {
   density-1000 = accepted (Density (whole 1000)) 1000 125 (pos 3) refl refl refl refl refl;
   flow-80-speed-0·8 = accepted (FlowAndSpeed (whole 80) four-fifths) 100 25 (pos 2) refl refl refl refl refl;
@@ -64,4 +67,11 @@ requested = record {
   totals-past = refl;
   totals-chain = refl;
   alternate = refl;
+  queued-three = refl;
+  queued-cell-1 = refl;
+  queued-cell-2 = refl;
+  queued-critical = refl;
+  queued-just-above = refl;
+  queued-5-above = refl;
+  queued-5-below = refl;
 }

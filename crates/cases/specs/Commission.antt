@@ -33,7 +33,7 @@ use Rattle.modes.specs.declared.fitting.FitAnswer.{FitAnswer}
 use Rattle.modes.specs.Fit.{allHold, Fits, AnswersFit}
 use Rattle.modes.specs.declared.reading.ReadAnswer.the-variants.{Done}
 use Rattle.modes.specs.declared.reading.StateReading.{StateReading}
-use Rattle.modes.specs.Reading.{countOf, ReadChecked, Reads}
+use Rattle.modes.specs.Reading.{countOf, queuedOf, ReadChecked, Reads}
 use Rattle.counting.specs.LegalWordsCounted.{legalWords, StandsAt}
 use Rattle.candidate.specs.Candidate.{rowFor, candidateNumerator}
 use Rattle.site.specs.Station.{estimateOf}
@@ -183,13 +183,17 @@ pub record Demand2 : Type 0 where
   pub own-holds : EachReading (λ x. (word : List ℕ) → (allHold (x .road) (x .cells) (x .up) (x .down) word ≡ true) ↔ (word ≡ x .letters))
   pub own-fits : EachReading (λ x. (a : FitAnswer) → Fits (x .road) (x .cells) (x .up) (x .down) (x .letters) a → AnswersFit a)
   pub only-fits : EachReading (λ x. (word : List ℕ) (a : FitAnswer) → Fits (x .road) (x .cells) (x .up) (x .down) word a → AnswersFit a → word ≡ x .letters)
-  -- ".. and counts ..": seven counts, one for each mode, whose sum is n, and the queued cells, those in modes 1, 2 and 3
+  -- ".. and counts ..": seven counts, one for each mode, whose sum is n
   pub counts : EachReading (λ x.
       x .counts
       ≡ countOf 1 (x .modes) ∷ countOf 2 (x .modes) ∷ countOf 3 (x .modes) ∷ countOf 4 (x .modes)
       ∷ countOf 5 (x .modes) ∷ countOf 6 (x .modes) ∷ countOf 7 (x .modes) ∷ [])
   pub counts-sum : EachReading (λ x. sum (x .counts) ≡ length (x .cells))
-  pub queued : EachReading (λ x. x .queued ≡ countOf 1 (x .modes) + countOf 2 (x .modes) + countOf 3 (x .modes))
+  -- document 02, E6: "count cells whose density exceeds C". They agree with the modes: cells in 1, 2 and 6 exceed it, cells in 3, 4 and 7 do not, cells in 5 may
+  pub queued : EachReading (λ x. x .queued ≡ queuedOf (x .road .critical) (x .cells))
+  pub signs : EachReading (λ x.
+      (countOf 1 (x .modes) + countOf 2 (x .modes) + countOf 6 (x .modes) ≤ x .queued)
+      × (x .queued ≤ countOf 1 (x .modes) + countOf 2 (x .modes) + countOf 5 (x .modes) + countOf 6 (x .modes)))
   -- the count of legal words by 001 (2.19): it is that of a list which holds every legal word of n+1 letters, nothing else, and nothing twice
   pub words : EachCount (λ x. (x .words ≡ wordCount (x .cells)) × (x .words ≡ length (legalWords (x .cells))))
   pub words-every : EachCount (λ x. (word : List ℕ) → length word ≡ x .cells + 1 → legal word ≡ true → (i : ℕ) × StandsAt (legalWords (x .cells)) word i)

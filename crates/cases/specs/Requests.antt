@@ -1,8 +1,9 @@
 -- The values of document 02, request by request: one record, one field a value. E1, E3, E4 and E5 print none: their values are worked from their words. Those of E2 on
--- road A are among the starred cases.
+-- road A are among the starred cases, and E6 prints those of two cells.
 use mathlib.Core.Path.{_≡_}
 use mathlib.Core.List.{List, [], _∷_}
-use Prim.Native.Nat.{ℕ}
+use Prim.Native.Nat.{ℕ, _+_}
+use lib.ListN.{length}
 use lib.IntN.{ℤ, pos, negsuc}
 use lib.Ieee.{Float, binary64, ofBits}
 use Rattle.road.specs.Table.{refused}
@@ -14,6 +15,9 @@ use Rattle.forecast.specs.declared.forecasting.ForecastAnswer.{ForecastAnswer}
 use Rattle.forecast.specs.declared.forecasting.ForecastAnswer.the-variants as Forecast
 use Rattle.forecast.specs.Forecast.{forecastAnswer, forecastCells}
 use Rattle.forecast.specs.Chain.{Call, Site, afterAll}
+use Rattle.modes.specs.Reading.{readAnswer}
+use Rattle.modes.specs.declared.reading.ReadAnswer.the-variants as Read
+use Rattle.modes.specs.declared.reading.StateReading.{StateReading}
 use Rattle.site.specs.Nearest.{Entry, ranking}
 use Rattle.site.specs.Station.{whole, stationAnswer}
 use Rattle.site.specs.declared.stations.StationReading.{StationReading}
@@ -64,6 +68,13 @@ site cells so-far = record { cells = cells; totals = so-far }
 abbrev pub unitRoad : Road
 unitRoad = record { divisor = 1; free = 1; wave = 1; jam = 2; critical = 1 }
 
+-- E6: a reading of cells of road A between two ends, into outputs of the right lengths; and the answer Done with given counts
+abbrev pub reading : ℕ → List ℕ → ℕ → StateReading
+reading up cells down = readAnswer roadA cells up down (length cells + 1) (length cells)
+
+abbrev pub counted : List ℕ → ℕ → StateReading
+counted modes queued = record { answer = Read.Done; counts = record { modes = modes; queued = queued } }
+
 pub record Requested : Type 0 where
   -- E1, station readings
   pub density-1000 : gives (Density (whole 1000)) 1000
@@ -85,3 +96,11 @@ pub record Requested : Type 0 where
   pub totals-chain : afterAll (site three none) (step 100 0 ∷ step 100 0 ∷ step 1001 0 ∷ step 120 0 ∷ step 150 900 ∷ []) ≡ site (145 ∷ 336 ∷ 545 ∷ []) (totals 376 500)
   -- E5, what the one list then holds: all faces are worked from the old densities. With an inflow from the new left cell all would be 0
   pub alternate : roundStep unitRoad 0 0 (1 ∷ 0 ∷ 1 ∷ 0 ∷ []) ≡ 0 ∷ 1 ∷ 0 ∷ 1 ∷ []
+  -- E6, queued means above critical: the starred three cells; of them cell 1, in mode 6, and cell 2, in mode 3; a cell at C and one just above it; and mode 5, above C and below
+  pub queued-three : reading 100 three 0 ≡ counted (0 ∷ 1 ∷ 1 ∷ 0 ∷ 0 ∷ 1 ∷ 0 ∷ []) 2
+  pub queued-cell-1 : reading 100 (300 ∷ []) 150 ≡ counted (0 ∷ 0 ∷ 0 ∷ 0 ∷ 0 ∷ 1 ∷ 0 ∷ []) 1
+  pub queued-cell-2 : reading 300 (150 ∷ []) 700 ≡ counted (0 ∷ 0 ∷ 1 ∷ 0 ∷ 0 ∷ 0 ∷ 0 ∷ []) 0
+  pub queued-critical : reading 300 (200 ∷ []) 700 ≡ counted (0 ∷ 0 ∷ 1 ∷ 0 ∷ 0 ∷ 0 ∷ 0 ∷ []) 0
+  pub queued-just-above : reading 100 (201 ∷ []) 150 ≡ counted (0 ∷ 0 ∷ 0 ∷ 0 ∷ 0 ∷ 1 ∷ 0 ∷ []) 1
+  pub queued-5-above : reading 100 (300 ∷ []) 700 ≡ counted (0 ∷ 0 ∷ 0 ∷ 0 ∷ 1 ∷ 0 ∷ 0 ∷ []) 1
+  pub queued-5-below : reading 100 (150 ∷ []) 900 ≡ counted (0 ∷ 0 ∷ 0 ∷ 0 ∷ 1 ∷ 0 ∷ 0 ∷ []) 0

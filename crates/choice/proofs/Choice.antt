@@ -1,8 +1,10 @@
--- Tests joined: what a joined test says of its parts, and a number in its range.
+-- Tests joined: what a joined test says of its parts. And what a test adds to a count.
 use mathlib.Core.Path.{_≡_, refl}
 use mathlib.Core.Bool.{Bool, true, false, true≢false, false≢true}
+use Prim.Native.Nat.{ℕ, _≤_}
+use native.Mathlib.Omega.{arith}
 use lib.Dec.{T}
-use Rattle.choice.specs.Choice.{or, both}
+use Rattle.choice.specs.Choice.{pick, or, both}
 
 -- two tests of which neither holds
 pub or-left : (a b : Bool) → or a b ≡ false → a ≡ false
@@ -41,3 +43,8 @@ both-true false = refl
 pub both-false : (a : Bool) → both a false ≡ false
 both-false true = refl
 both-false false = refl
+
+-- a count grows by one at most
+pub one-at-most : (b : Bool) → pick {A = ℕ} b 1 0 ≤ 1
+one-at-most true = omega arith
+one-at-most false = omega arith

@@ -13,12 +13,12 @@ use Rattle.scheme.specs.Word.{wordOf}
 use Rattle.scheme.proofs.Faces.{word-length}
 use Rattle.modes.specs.Modes.{modesOf}
 use Rattle.modes.specs.Judging.{readRefusal}
-use Rattle.modes.specs.Reading.{Numbered, tallied, noCounts, readAnswer, readLetters, readModes, ReadChecked, Reads}
+use Rattle.modes.specs.Reading.{countsOf, queuedOf, countsFor, noCounts, readAnswer, readLetters, readModes, ReadChecked, Reads}
 use Rattle.modes.specs.declared.reading.ReadAnswer.{ReadAnswer}
 use Rattle.modes.specs.declared.reading.ReadAnswer.the-variants.{Done, Refused}
 use Rattle.modes.specs.declared.reading.Counts.{Counts}
 use Rattle.modes.specs.declared.reading.StateReading.{StateReading}
-use Rattle.modes.proofs.TalliedModes.{state-modes-length, state-numbered}
+use Rattle.modes.proofs.TalliedModes.{state-modes-length}
 use Rattle.modes.proofs.ReadJudging.{read-call}
 use Rattle.modes.proofs.ReadState.{read-state}
 
@@ -58,19 +58,18 @@ module _ (r : Road) (cells : List ℕ) (up down : ℕ) (letters modes : List ℕ
         modes-are = moded ∙ ap modesOf lettered
 
         -- what the tally asks
-        pub tally-asks : (length ms ≤ cellsCeiling) × Numbered ms
-        tally-asks = (
-          let n = ap length modes-are ∙ state-modes-length r up down cells in let h = checked .cells-high in omega arith,
-          rw modes-are (state-numbered r up down cells (checked .accepted)),
-        )
+        pub few-modes : length ms ≤ cellsCeiling
+        few-modes = let n = ap length modes-are ∙ state-modes-length r up down cells in let h = checked .cells-high in omega arith
 
-        pub done : (c : Counts) → c ≡ tallied ms → Reads r cells up down letters word modes ms (reading Done c)
+        pub done : (counts : List ℕ) (queued : ℕ) → counts ≡ countsOf ms → queued ≡ queuedOf (r .critical) cells
+            → Reads r cells up down letters word modes ms (reading Done (record { modes = counts; queued = queued }))
         unfolding readAnswer readLetters readModes
-        done c counted =
+        done counts queued tallied above =
             let k = Calls.accepts (read-call r cells up down (length letters) (length modes)) e in
-            let counts : c ≡ tallied (modesOf (wordOf r up down cells)) = counted ∙ ap tallied modes-are in
+            let c : Counts = record { modes = counts; queued = queued } in
+            let counted : c ≡ countsFor r cells ms = λ j. record { modes = tallied j; queued = above j } in
             record {
-              answer = rw (k .yes) (ap (reading Done) counts);
+              answer = rw (k .yes) (ap (reading Done) (counted ∙ ap (countsFor r cells) modes-are));
               number = sym (ap (λ (g : Refusal). g .number) (k .nothing));
               place = sym (ap (λ (g : Refusal). g .place) (k .nothing));
               letters-written = rw (k .yes) lettered;

@@ -3,16 +3,15 @@ use mathlib.Core.Path.{_≡_, refl}
 use mathlib.Core.List.{List}
 use Prim.Native.Nat.{ℕ}
 use native.Mathlib.Numerals.{add-one}
-use lib.ListN.{length}
 use Rattle.road.specs.declared.Road.{Road}
 use Rattle.flux.proofs.Letters.{published}
 use Rattle.scheme.specs.Word.{wordOf}
 use Rattle.scheme.proofs.Faces.{word-letter}
 use Rattle.modes.specs.Modes.{modesOf}
 use Rattle.modes.specs.Fit.{FitChecked}
-use Rattle.modes.specs.Reading.{tallied, ReadChecked, OwnWord, ReadState}
+use Rattle.modes.specs.Reading.{countsFor, ReadChecked, OwnWord, ReadState}
 use Rattle.modes.specs.declared.reading.Counts.{Counts}
-use Rattle.modes.proofs.TalliedModes.{state-modes-length, state-numbered, state-counts-sum, state-queued}
+use Rattle.modes.proofs.TalliedModes.{state-modes-length, state-numbered, state-counts-sum, signs-agree}
 use Rattle.modes.proofs.Fitness.{word-lettered, own-word}
 use Rattle.modes.proofs.FitAnswers.{answers-fit}
 
@@ -32,7 +31,7 @@ fit-checked c own = record {
 
 module _ (r : Road) (cells : List ℕ) (up down letters modes : ℕ) (checked : ReadChecked r cells up down letters modes) where
   -- the state's own word, its modes and their counts
-  own-state : ReadState r cells up down (wordOf r up down cells) (modesOf (wordOf r up down cells)) (tallied (modesOf (wordOf r up down cells)))
+  own-state : ReadState r cells up down (wordOf r up down cells) (modesOf (wordOf r up down cells)) (countsFor r cells (modesOf (wordOf r up down cells)))
   own-state =
       let ok = checked .accepted in
       let own = own-word r cells up down ok in
@@ -48,9 +47,10 @@ module _ (r : Road) (cells : List ℕ) (up down letters modes : ℕ) (checked : 
         numbered = state-numbered r up down cells ok;
         counted = refl;
         counts-sum = state-counts-sum r up down cells ok;
-        queued = state-queued r up down cells ok;
+        queued = refl;
+        signs = signs-agree r ok up down cells;
       }
 
   -- and whatever is the same
-  pub read-state : (word ms : List ℕ) (c : Counts) → word ≡ wordOf r up down cells → ms ≡ modesOf word → c ≡ tallied ms → ReadState r cells up down word ms c
+  pub read-state : (word ms : List ℕ) (c : Counts) → word ≡ wordOf r up down cells → ms ≡ modesOf word → c ≡ countsFor r cells ms → ReadState r cells up down word ms c
   read-state word ms c lettered moded counted = rw (counted, moded, lettered) own-state

@@ -1,11 +1,11 @@
--- The reading of a state: letters, modes, seven counts and the queued cells (document 01, "Seven modes").
+-- The reading of a state: letters, modes, seven counts and the queued cells (document 01, "Seven modes"; document 02, E6).
 use mathlib.Core.Path.{_≡_}
-use mathlib.Core.Bool.{Bool, true}
+use mathlib.Core.Bool.{true}
 use mathlib.Core.List.{List, [], _∷_}
 use Prim.Native.Nat.{ℕ, _+_, _≤_, _<_}
-use lib.Dec.{eqb}
+use lib.Dec.{eqb, ltb}
 use lib.ListN.{length, getD}
-use Rattle.choice.specs.Choice.{pick, or}
+use Rattle.choice.specs.Choice.{pick}
 use Rattle.road.specs.Table.{judge, refused, Judged}
 use Rattle.road.specs.Ceilings.{cellsCeiling}
 use Rattle.road.specs.Judgement.{Accepted}
@@ -35,22 +35,18 @@ countOf k (m ∷ ms) = pick (eqb m k) 1 0 + countOf k ms
 unfoldable pub countsOf : List ℕ → List ℕ
 countsOf ms = countOf 1 ms ∷ countOf 2 ms ∷ countOf 3 ms ∷ countOf 4 ms ∷ countOf 5 ms ∷ countOf 6 ms ∷ countOf 7 ms ∷ []
 
--- the mode of a queued cell: 1, 2 or 3
-abbrev pub isQueued : ℕ → Bool
-isQueued m = or (eqb m 1) (or (eqb m 2) (eqb m 3))
-
--- the queued cells: those in modes 1, 2 and 3, which source 003 calls congestion
-unfoldable pub queuedOf : List ℕ → ℕ
-queuedOf [] = 0
-queuedOf (m ∷ ms) = pick (isQueued m) 1 0 + queuedOf ms
+-- the queued cells: those whose density exceeds C (document 02, E6); document 01's meaning, modes 1, 2 and 3, which source 003 calls congestion, is replaced
+unfoldable pub queuedOf : ℕ → List ℕ → ℕ
+queuedOf c [] = 0
+queuedOf c (x ∷ xs) = pick (ltb c x) 1 0 + queuedOf c xs
 
 -- every mode is one of the seven
 abbrev pub Numbered : List ℕ → Type 0
 Numbered ms = (i : ℕ) → i < length ms → (1 ≤ getD ms i 0) × (getD ms i 0 ≤ 7)
 
--- the counts of a list of modes
-abbrev pub tallied : List ℕ → Counts
-tallied ms = record { modes = countsOf ms; queued = queuedOf ms }
+-- the counts of a state's modes, and its queued cells
+abbrev pub countsFor : Road → List ℕ → List ℕ → Counts
+countsFor r cells modes = record { modes = countsOf modes; queued = queuedOf (r .critical) cells }
 
 -- no counts
 abbrev pub noCounts : Counts
@@ -82,7 +78,7 @@ readAnswer r cells up down letters modes =
     pick (eqb (readRefusal r cells up down letters modes .number) 0)
     (record {
       answer = Done;
-      counts = tallied (modesOf (wordOf r up down cells));
+      counts = countsFor r cells (modesOf (wordOf r up down cells));
     })
     (record { answer = Refused (readRefusal r cells up down letters modes); counts = noCounts })
 
@@ -111,7 +107,12 @@ pub record OwnWord (r : Road) (cells : List ℕ) (up down : ℕ) (word : List �
   pub fits : allHold r cells up down word ≡ true
   pub only : (other : List ℕ) → allHold r cells up down other ≡ true → other ≡ word
 
--- an accepted reading of n cells: n+1 letters, the state's own word; n modes, each one of the seven; the counts of the modes, whose sum is n; the queued cells, those in modes 1, 2 and 3
+-- how the queued number agrees with the modes: a cell in mode 1, 2 or 6 exceeds C, one in mode 3, 4 or 7 does not, and one in mode 5 may
+pub record SignsAgree (modes : List ℕ) (queued : ℕ) : Type 0 where
+  pub least : countOf 1 modes + countOf 2 modes + countOf 6 modes ≤ queued
+  pub most : queued ≤ countOf 1 modes + countOf 2 modes + countOf 5 modes + countOf 6 modes
+
+-- an accepted reading of n cells: n+1 letters, the state's own word; n modes, each one of the seven; the counts of the modes, whose sum is n; the queued cells, those above C
 pub record ReadState (r : Road) (cells : List ℕ) (up down : ℕ) (letters modes : List ℕ) (c : Counts) : Type 0 where
   -- the letter of each face stands in its region, and the face has that letter's published flow
   pub lettered : LetteredWord r cells up down letters
@@ -124,9 +125,10 @@ pub record ReadState (r : Road) (cells : List ℕ) (up down : ℕ) (letters mode
   pub moded : modes ≡ modesOf letters
   pub modes-long : length modes ≡ length cells
   pub numbered : Numbered modes
-  pub counted : c ≡ tallied modes
+  pub counted : c ≡ countsFor r cells modes
   pub counts-sum : sum (c .modes) ≡ length cells
-  pub queued : c .queued ≡ countOf 1 modes + countOf 2 modes + countOf 3 modes
+  pub queued : c .queued ≡ queuedOf (r .critical) cells
+  pub signs : SignsAgree modes (c .queued)
 
 -- what the call promises
 pub record Reads (r : Road) (cells : List ℕ) (up down : ℕ) (letters next-letters modes next-modes : List ℕ) (a : StateReading) : Type 0 where

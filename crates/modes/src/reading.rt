@@ -3,13 +3,14 @@ ghost use mathlib.Core.Path.{_≡_};
 ghost use lib.ListN.{length};
 ghost use Rattle.modes.specs.Judging.{readRefusal};
 ghost use Rattle.modes.specs.Reading.{readShapeRefusal, Reads};
+use super::tallying::queued;
 use super::tallying::tally;
 use super::writing::write_letters;
 use super::writing::write_modes;
 use road::Refusal;
 use road::Road;
 
-// One count for each mode, 1 to 7, and the queued cells.
+// One count for each mode, 1 to 7, and the queued cells: those denser than critical.
 pub struct Counts {
     pub modes: [u32; 7],
     pub queued: u32,
@@ -79,6 +80,9 @@ pub fn read(
     write_modes(letters, modes);
     StateReading {
         answer: ReadAnswer::Done,
-        counts: tally(modes),
+        counts: Counts {
+            modes: tally(modes),
+            queued: queued(road.critical, cells),
+        },
     }
 }

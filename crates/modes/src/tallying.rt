@@ -1,44 +1,51 @@
-// The counts of a reading: how many cells are in each mode, and how many are queued.
+// The counts of a reading: how many cells are in each mode, and how many are queued. A count is kept in 16 bits, which hold
+// the cells' ceiling, while it grows: vector instructions then work twice as many at a time as in 32.
 ghost use mathlib.Core.Path.{_≡_};
 ghost use Prim.Native.Nat.{_≤_};
 ghost use lib.ListN.{length};
-ghost use Rattle.choice.specs.Choice.{pick};
 ghost use Rattle.road.specs.Ceilings.{cellsCeiling};
-ghost use Rattle.modes.specs.Reading.{Numbered, isQueued, tallied};
-use super::reading::Counts;
+ghost use Rattle.modes.specs.Reading.{countOf, countsOf, queuedOf};
 
-// Internal: whether a mode is that of a queued cell: 1, 2 or 3.
-fn is_queued(mode: u8) -> bool
-    ensures { λ b. ⌜ b ≡ isQueued mode ⌝ }
-{
-    choice::either(mode == 1, choice::either(mode == 2, mode == 3))
-}
-
-// Internal: 1 for a queued cell's mode, 0 for another.
-fn queued_one(mode: u8) -> u32
-    ensures { λ q. ⌜ q ≡ pick (isQueued mode) 1 0 ⌝ }
-{
-    if is_queued(mode) { 1 } else { 0 }
-}
-
-// Internal: the counts of a list of modes.
-pub fn tally(modes: &[u8]) -> Counts
+// Internal: how many of the modes are a given one.
+fn count_of(mode: u8, modes: &[u8]) -> u32
     requires { ⌜ length (now modes) ≤ cellsCeiling ⌝ }
-    requires { ⌜ Numbered (now modes) ⌝ }
-    ensures { λ c. ⌜ c ≡ tallied (now (modes .entry)) ⌝ }
+    ensures { λ c. ⌜ c ≡ countOf mode (now (modes .entry)) ⌝ }
 {
-    let mut counts: [u32; 7] = [0; 7];
-    let mut queued: u32 = 0;
+    let mut count: u16 = 0;
     let mut i = 0;
     while i < modes.len() {
-        let mode = modes[i];
-        let place = (mode - 1) as usize;
-        counts[place] = counts[place] + 1;
-        queued = queued + queued_one(mode);
+        count = count + choice::one_if(modes[i] == mode);
         i += 1;
     }
-    Counts {
-        modes: counts,
-        queued,
+    count as u32
+}
+
+// Internal: how many of the modes are 1, 2 and so on to 7: a pass for each, which takes the same time for every state.
+pub fn tally(modes: &[u8]) -> [u32; 7]
+    requires { ⌜ length (now modes) ≤ cellsCeiling ⌝ }
+    ensures { λ c. ⌜ c ≡ countsOf (now (modes .entry)) ⌝ }
+{
+    [
+        count_of(1, modes),
+        count_of(2, modes),
+        count_of(3, modes),
+        count_of(4, modes),
+        count_of(5, modes),
+        count_of(6, modes),
+        count_of(7, modes),
+    ]
+}
+
+// Internal: how many of the cells are denser than critical.
+pub fn queued(critical: u32, cells: &[u32]) -> u32
+    requires { ⌜ length (now cells) ≤ cellsCeiling ⌝ }
+    ensures { λ q. ⌜ q ≡ queuedOf critical (now (cells .entry)) ⌝ }
+{
+    let mut queued: u16 = 0;
+    let mut cell = 0;
+    while cell < cells.len() {
+        queued = queued + choice::one_if(critical < cells[cell]);
+        cell += 1;
     }
+    queued as u32
 }

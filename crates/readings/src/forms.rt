@@ -2,7 +2,7 @@
 use printing::page::Page;
 use printing::say;
 
-const FORMS: [u8; 262] = *b"done 
+const FORMS: [u8; 272] = *b"done 
  % 
 % % % %
  % % %
@@ -11,7 +11,7 @@ const FORMS: [u8; 262] = *b"done
  after % step~
  at the start
 |  cells in mode 1 to 7: 
-|  queued %|  letters of the faces|
+|  queued (above C) %|  letters of the faces|
   modes of the cells|
 done fit % %|
 fit|  every face of the word holds|

@@ -2,7 +2,7 @@
 use printing::page::Page;
 use printing::say;
 
-const FORMS: [u8; 1158] = *b"\
+const FORMS: [u8; 1189] = *b"\
 : counts
 , queued %
 , letters
@@ -15,6 +15,8 @@ const FORMS: [u8; 1158] = *b"\
 : another value
 words for % cells
 : %
+reading cells
+ between % and %
 reading cells 300 150 700 between 100 and 0
 reading C 201
 reading no cells
@@ -80,8 +82,13 @@ pub const WORDS_FOR: usize = 10;
 
 pub const NUMBER: usize = 11;
 
+// What stands before the cells of a state, and behind them.
+pub const STATE: usize = 12;
+
+const ENDS: usize = 13;
+
 // The first name of each table.
-pub const READINGS: usize = 12;
+pub const READINGS: usize = 14;
 
 pub const LONG_READINGS: usize = READINGS + 7;
 
@@ -94,4 +101,9 @@ pub const CANDIDATES: usize = ROWS + 8;
 // A form, with the number that it may ask for.
 pub fn say(page: &mut Page, line: usize, a: u64) {
     say::form(page, &FORMS, line, a, 0, 0, 0);
+}
+
+// The two ends of a state.
+pub fn ends(page: &mut Page, up: u32, down: u32) {
+    say::form(page, &FORMS, ENDS, up as u64, down as u64, 0, 0);
 }

@@ -22,9 +22,8 @@ fn counts(page: &mut Page, c: Counts) {
 }
 
 // One reading and what it left in its two outputs.
-fn show(
+pub fn show(
     page: &mut Page,
-    line: usize,
     road: Road,
     cells: &[u32],
     up: u32,
@@ -32,7 +31,6 @@ fn show(
     letters: &mut [u8],
     codes: &mut [u8],
 ) {
-    forms::say(page, line, 0);
     let reading = modes::read(road, cells, up, down, letters, codes);
     let answer = reading.answer;
     match answer {
@@ -73,9 +71,9 @@ fn short(page: &mut Page, line: usize, road: u8, cells: u8, up: u32, down: u32, 
     let mut codes = [7u8; 4];
     let n = few::count(cells);
     if places <= 4 {
+        forms::say(page, line, 0);
         show(
             page,
-            line,
             roads::road(road),
             &xs[..n],
             up,
@@ -111,9 +109,9 @@ fn long(page: &mut Page, line: usize, n: usize) {
     let mut codes = lists::codes();
     if n <= lists::CELLS {
         let m = n + 1;
+        forms::say(page, line, 0);
         show(
             page,
-            line,
             roads::road(A),
             &cells[..n],
             0,

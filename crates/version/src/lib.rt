@@ -5,9 +5,9 @@ ghost use Rattle.version.specs.Version.{versionNumber};
 
 pub const MAJOR: u32 = 0;
 
-pub const MINOR: u32 = 6;
+pub const MINOR: u32 = 7;
 
-pub const PATCH: u32 = 1;
+pub const PATCH: u32 = 0;
 
 // The version as one number. It rises with the version as long as minor and patch stay below a hundred.
 pub fn number() -> u32

@@ -12,7 +12,7 @@ mod reference;
 
 use exact::Whole;
 use random::Random;
-use reference::{Forecast, Ranking, Refused, Station, Units};
+use reference::{Forecast, Ranking, Reading, Refused, Station, Units};
 use std::collections::BTreeMap;
 use std::env;
 use std::thread;
@@ -353,9 +353,43 @@ fn state(g: &mut Random) -> State {
     with_faults(g, good)
 }
 
+/// What a reading answers: the same from C, from the safe function and from the reference. Queued is not counted by
+/// modes, yet keeps to them: a cell in mode 1, 2 or 6 is above critical, one in mode 3, 4 or 7 is not, and one in mode 5
+/// may be either.
+fn read(road: [u32; 5], cells: &[u32], up: u32, down: u32, letters: usize, modes: usize) -> Result<Reading, Refused> {
+    let expected = reference::read(road, cells, up, down, letters, modes);
+    let input = || format!("road {road:?}, cells {cells:?}, up {up}, down {down}, outputs {letters}, {modes}");
+
+    let by_c = raw::read(road, cells, up, down, letters, modes).map(|(letters, modes, counts, queued)| {
+        let counts = counts.try_into().expect("seven counts");
+        Reading { letters, modes, counts, queued }
+    });
+    assert_eq!(by_c, expected, "{}", input());
+
+    let (mut letters, mut modes) = (vec![0x5a; letters], vec![0x5a; modes]);
+    let by_rust = welgadou::read(&road_of(road), cells, up, down, &mut letters, &mut modes);
+    match &expected {
+        Ok(reading) => {
+            let counts = welgadou::Counts { modes: reading.counts, queued: reading.queued };
+            assert_eq!(by_rust, Ok(counts), "{}", input());
+            assert_eq!((letters, modes), (reading.letters.clone(), reading.modes.clone()), "{}", input());
+            assert_eq!(reading.counts.iter().sum::<u32>() as usize, cells.len(), "{}", input());
+            let [m1, m2, _, _, m5, m6, _] = counts.modes;
+            assert!(m1 + m2 + m6 <= counts.queued && counts.queued <= m1 + m2 + m5 + m6, "{counts:?}, {}", input());
+        }
+        Err(refused) => {
+            assert_eq!(by_rust.map_err(pair_of), Err(*refused), "{}", input());
+            assert!(letters.iter().chain(&modes).all(|&x| x == 0x5a), "{}", input());
+        }
+    }
+    expected
+}
+
+/// Both sides of the border of queued cells have words of their own: a cell at critical, and one that is just above.
 #[test]
 fn readings() {
-    cases("read", 100_000, &[1, 2, 3, 4, 5, 8, 9, 10, 11], &[" free", " queued"], |g| {
+    let words = [" free", " free with one at critical", " queued", " queued with one just above"];
+    cases("read", 100_000, &[1, 2, 3, 4, 5, 8, 9, 10, 11], &words, |g| {
         let (road, cells, up, down) = state(g);
         let (mut letters, mut modes) = (cells.len() + 1, cells.len());
         if g.one_in(8) {
@@ -364,30 +398,14 @@ fn readings() {
         if g.one_in(8) {
             modes = random::other_length(g, modes);
         }
-        let expected = reference::read(road, &cells, up, down, letters, modes);
-        let input = || format!("road {road:?}, cells {cells:?}, up {up}, down {down}, outputs {letters}, {modes}");
-
-        let by_c = raw::read(road, &cells, up, down, letters, modes).map(|(letters, modes, counts, queued)| {
-            let counts = counts.try_into().expect("seven counts");
-            reference::Reading { letters, modes, counts, queued }
-        });
-        assert_eq!(by_c, expected, "{}", input());
-
-        let (mut letters, mut modes) = (vec![0x5a; letters], vec![0x5a; modes]);
-        let by_rust = welgadou::read(&road_of(road), &cells, up, down, &mut letters, &mut modes);
-        match &expected {
-            Ok(reading) => {
-                let counts = welgadou::Counts { modes: reading.counts, queued: reading.queued };
-                assert_eq!(by_rust, Ok(counts), "{}", input());
-                assert_eq!((letters, modes), (reading.letters.clone(), reading.modes.clone()), "{}", input());
-                assert_eq!(reading.counts.iter().sum::<u32>() as usize, cells.len(), "{}", input());
+        let answer = read(road, &cells, up, down, letters, modes);
+        kind_of(&answer, |reading| {
+            let [_, _, _, _, critical] = road;
+            match reading.queued {
+                0 => words[usize::from(cells.contains(&critical))],
+                _ => words[2 + usize::from(cells.contains(&(critical + 1)))],
             }
-            Err(refused) => {
-                assert_eq!(by_rust.map_err(pair_of), Err(*refused), "{}", input());
-                assert!(letters.iter().chain(&modes).all(|&x| x == 0x5a), "{}", input());
-            }
-        }
-        kind_of(&expected, |reading| if reading.queued == 0 { " free" } else { " queued" })
+        })
     });
 }
 
@@ -451,10 +469,10 @@ fn own_rows_are_the_exact_step() {
         let n = random::size(g);
         let cells = random::densities(g, &road, n);
         let (up, down) = (random::density(g, &road), random::density(g, &road));
-        let (mut letters, mut modes, mut values, mut next) = (vec![0; n + 1], vec![0; n], vec![0; n], vec![0; n]);
+        let (mut values, mut next) = (vec![0; n], vec![0; n]);
         let r = &road_of(road);
-        welgadou::read(r, &cells, up, down, &mut letters, &mut modes).expect("accepted");
-        welgadou::rows(r, &cells, up, down, &letters, &mut values).expect("accepted");
+        let own = read(road, &cells, up, down, n + 1, n).expect("accepted");
+        welgadou::rows(r, &cells, up, down, &own.letters, &mut values).expect("accepted");
         welgadou::forecast(r, &cells, &[up], &[down], 1, &mut Totals::default(), &mut next).expect("accepted");
         let (exact, _) = exact::run(road, &cells, &[up], &[down]);
         for i in 0..n {
@@ -534,7 +552,7 @@ fn word_counts() {
 /// From 1 cell on, every legal word is the word of some state: a state is made for each, and read.
 #[test]
 fn every_legal_word_occurs() {
-    use reference::{D, L, W};
+    use reference::{L, W};
     let mut tried = 0;
     for road in random::CORNERS {
         let [_, _, _, jam, critical] = road;
@@ -548,9 +566,8 @@ fn every_legal_word_occurs() {
                 let cells: Vec<u32> = word.windows(2).map(|pair| cell(pair[0], pair[1])).collect();
                 let up = [critical, jam, 0][usize::from(word[0])];
                 let down = if word[n] == W { jam } else { 0 };
-                let (mut letters, mut modes) = (vec![D; n + 1], vec![0; n]);
-                welgadou::read(&road_of(road), &cells, up, down, &mut letters, &mut modes).expect("accepted");
-                assert_eq!(letters, word, "road {road:?}, cells {cells:?}, up {up}, down {down}");
+                let own = read(road, &cells, up, down, n + 1, n).expect("accepted");
+                assert_eq!(own.letters, word, "road {road:?}, cells {cells:?}, up {up}, down {down}");
                 tried += 1;
             }
         }
@@ -893,8 +910,8 @@ fn road_a() {
         (1, 1000, 0, 0),
     ];
     for (a, b, letter, units) in faces {
-        let (letters, _, _, _) = raw::read(ROAD_A, &[b], a, 0, 2, 1).expect("accepted");
-        assert_eq!(letters[0], letter, "the letter of ({a}, {b})");
+        let reading = read(ROAD_A, &[b], a, 0, 2, 1).expect("accepted");
+        assert_eq!(reading.letters[0], letter, "the letter of ({a}, {b})");
         let (_, [entered, _], _) = raw::forecast(ROAD_A, &[b], &[a], &[0], 1, [0, 0], 1).expect("accepted");
         assert_eq!(entered, units, "the units of ({a}, {b})");
     }
@@ -902,14 +919,37 @@ fn road_a() {
     assert_eq!(moved(&[101], 0), Ok((vec![20], [0, 81], [0, 81])));
     let cells = [300, 150, 700];
     assert_eq!(moved(&cells, 100), Ok((vec![220, 250, 600], [80, 160], [80, 160])));
-    let (letters, modes, counts, queued) = raw::read(ROAD_A, &cells, 100, 0, 4, 3).expect("accepted");
-    assert_eq!((letters, modes), (vec![2, 1, 0, 1], vec![6, 3, 2]));
-    assert_eq!((counts, queued), (vec![0, 1, 1, 0, 0, 1, 0], 2));
+    let reading = read(ROAD_A, &cells, 100, 0, 4, 3).expect("accepted");
+    assert_eq!((reading.letters, reading.modes), (vec![2, 1, 0, 1], vec![6, 3, 2]));
+    assert_eq!((reading.counts, reading.queued), ([0, 1, 1, 0, 0, 1, 0], 2));
     assert_eq!(raw::rows(ROAD_A, &cells, 100, 0, &[2, 1, 0, 1], 3), Ok(vec![1100, 1250, 3000]));
     assert_eq!(raw::rows(ROAD_A, &[0], 0, 0, &[2, 0], 1), Ok(vec![-1000]));
     assert_eq!(raw::settle(ROAD_A, &[2], 0, 0, 9, 1), Ok((vec![0], 1, 1)));
     for (cells, words) in [(0, 3), (1, 7), (2, 16), (5, 182), (10, 10426), (20, 34206521)] {
         assert_eq!(raw::count(cells), Ok(words));
+    }
+}
+
+/// The request on queued cells, on road A: upstream end, cells, downstream end, modes and how many are queued. Its case is
+/// first, then the two cells that it names, each by itself: counted by the modes 1, 2 and 3 the case has the same number,
+/// and neither cell has.
+#[test]
+fn fixed_queued() {
+    let accepted = [
+        (100, vec![300, 150, 700], 0, vec![6, 3, 2], 2),
+        (100, vec![300], 150, vec![6], 1),
+        (300, vec![150], 700, vec![3], 0),
+        (300, vec![200], 700, vec![3], 0),
+        (100, vec![201], 150, vec![6], 1),
+        (100, vec![200], 150, vec![7], 0),
+        (100, vec![300], 700, vec![5], 1),
+        (100, vec![150], 900, vec![5], 0),
+        (0, vec![201, 201], 0, vec![5, 2], 2),
+        (1000, vec![200, 200, 200], 1000, vec![4, 7, 5], 0),
+    ];
+    for (up, cells, down, modes, queued) in accepted {
+        let reading = read(ROAD_A, &cells, up, down, cells.len() + 1, cells.len()).expect("accepted");
+        assert_eq!((reading.modes, reading.queued), (modes, queued), "up {up}, cells {cells:?}, down {down}");
     }
 }
 

@@ -158,7 +158,7 @@ fn neighbour(g: &mut Random, road: &[u32; 5], a: u32) -> u32 {
 /// So many densities of an accepted road, of one of several kinds of state.
 pub fn densities(g: &mut Random, road: &[u32; 5], n: usize) -> Vec<u32> {
     let [_, _, _, j, c] = *road;
-    match g.below(6) {
+    match g.below(7) {
         0 => vec![density(g, road); n],
         1 => (0..n).map(|_| g.from(0, c)).collect(),
         2 => (0..n).map(|_| g.of(&[0, c, j])).collect(),
@@ -171,6 +171,8 @@ pub fn densities(g: &mut Random, road: &[u32; 5], n: usize) -> Vec<u32> {
                 })
                 .collect()
         }
+        // Many on both sides of where a cell becomes queued; the others bring these into every mode that they can have.
+        4 => (0..n).map(|_| if g.one_in(4) { density(g, road) } else { g.of(&[c, c + 1]).min(j) }).collect(),
         _ => (0..n).map(|_| density(g, road)).collect(),
     }
 }

@@ -333,7 +333,7 @@ pub fn read(r: [u32; 5], cells: &[u32], up: u32, down: u32, letters: usize, mode
     for mode in 1..=7u8 {
         counts[usize::from(mode) - 1] = modes.iter().filter(|&&m| m == mode).count() as u32;
     }
-    let queued = modes.iter().filter(|mode| [1, 2, 3].contains(*mode)).count() as u32;
+    let queued = cells.iter().filter(|&&x| i128::from(x) > r.c).count() as u32;
     Ok(Reading { letters, modes, counts, queued })
 }
 

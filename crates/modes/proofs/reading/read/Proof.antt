@@ -1,9 +1,9 @@
--- `modes::read` meets its contract: refused, nothing is written; otherwise the letters, then the modes of the letters, then the counts of the modes.
+-- `modes::read` meets its contract: refused, nothing is written; otherwise the letters, then the modes of the letters, then the counts of the modes and the queued cells.
 use mathlib.Core.Path.{_≡_}
 use lib.ListN.{length}
 use Rattle.road.proofs.Parts.{same-number}
 use Rattle.modes.specs.Judging.{readRefusal}
-use Rattle.modes.proofs.ReadAnswers.{refused, checked, word-long, tally-asks, done}
+use Rattle.modes.proofs.ReadAnswers.{refused, checked, word-long, few-modes, done}
 use borrow.Author.Needs.{needs}
 use Rattle.modes.proofs.reading.read.Statement.{statement}
 use Rattle.modes.proofs.reading.read.Tie as tie
@@ -41,22 +41,30 @@ tally-requires c κs =
     let lettered = moded .before .before .before .before .before in
     let go = lettered .before .before in
     let s = go .before .before .before .before .before .before in
-    tally-asks (s .args .road) (s .args .cells .now) (s .args .up) (s .args .down) (s .args .letters .now) (s .args .modes .now) (nothing go)
+    few-modes (s .args .road) (s .args .cells .now) (s .args .up) (s .args .down) (s .args .letters .now) (s .args .modes .now) (nothing go)
     (lettered .write-letters .last .1 .1 .1 .1 .0) (lettered .write-letters .ensures)
     (moded .write-modes .last .1 .0) (moded .write-modes .ensures)
 
+queued-requires : tie.Need-queued-requires
+queued-requires c κs =
+    let go = c .before .before .before .before .before .before .before .before .before .before .before in
+    let s = go .before .before .before .before .before .before in
+    checked (s .args .road) (s .args .cells .now) (s .args .up) (s .args .down) (s .args .letters .now) (s .args .modes .now) (nothing go) .cells-high
+
 returns-2 : tie.Need-returns-2
 returns-2 c =
-    let moded = c .before .before .before .before in
+    let tallied = c .before in
+    let moded = tallied .before .before .before .before in
     let lettered = moded .before .before .before .before .before in
     let go = lettered .before .before in
     let s = go .before .before .before .before .before .before in
     done (s .args .road) (s .args .cells .now) (s .args .up) (s .args .down) (s .args .letters .now) (s .args .modes .now) (nothing go)
     (lettered .write-letters .last .1 .1 .1 .1 .0) (lettered .write-letters .ensures)
-    (moded .write-modes .last .1 .0) (moded .write-modes .ensures) (c .tally .result) (c .tally .ensures)
+    (moded .write-modes .last .1 .0) (moded .write-modes .ensures)
+    (tallied .tally .result) (c .queued .result) (tallied .tally .ensures) (c .queued .ensures)
 
 pub read-spec : {M : Type 1} → statement M
 read-spec =
     tie.close
     (tie.spec (λ c κs. search needs) returns write-letters-requires write-modes-requires tally-requires
-    (λ c. search needs) (λ c. search needs) returns-2)
+    queued-requires (λ c. search needs) (λ c. search needs) returns-2)

@@ -17,6 +17,6 @@ pub long-spec : {M : Type 1} → statement M
 long-spec =
     tie.close
     (tie.spec (λ c κs. search needs) (λ c κs. search needs) (λ c κs. search needs) (λ c. search needs)
-    (λ c κs. search needs) (λ c. search needs) slice-aggregate-show (λ c. search needs)
+    (λ c κs. search needs) (λ c κs. search needs) (λ c. search needs) slice-aggregate-show (λ c. search needs)
     slice-aggregate-show-2 (λ c. search needs) slice-aggregate-show-3 (λ c κs. search needs)
     (λ c. search needs) (λ c. search needs))
