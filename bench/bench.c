@@ -7,7 +7,8 @@
 #include "kernels.h"
 #include "welgadou.h"
 
-/* The proved calls of an earlier state of this project, where `run` was given one: one kernel more in each contest. */
+/* The proved calls of an earlier state of this project, where `run` was given one: one kernel more in each contest. BEFORE
+ * is its name in the contests of the calls that take caps, which says whether it takes them. */
 #ifdef BEFORE
 #define EARLIER(kernel) kernel,
 enum { ONE_MORE = 1 };
@@ -16,11 +17,11 @@ enum { ONE_MORE = 1 };
 enum { ONE_MORE = 0 };
 #endif
 
-enum { CELLS = 256, STEPS = 4096, ROUNDS = 60, KERNELS = 5, SIZES = 4 };
+enum { CELLS = 256, STEPS = 4096, ROUNDS = 60, KERNELS = 7, SIZES = 4 };
 
 /* The input, and what each kernel made of it. */
 static const struct road road = { 4095, 3276, 819, 1000000, 200000 };
-static uint32_t cells[CELLS], up[STEPS], down[STEPS];
+static uint32_t cells[CELLS], up[STEPS], down[STEPS], open_caps[CELLS + 1], narrow_caps[CELLS + 1];
 static uint8_t word[CELLS + 1];
 static struct result {
     uint32_t cells[CELLS], settled, steps, counts[7], queued, numbers[CELLS];
@@ -35,21 +36,27 @@ static const struct road small_road = { 5, 4, 1, 1000, 200 };
 static uint32_t small_cells[CELLS], rising[CELLS];
 
 /* The calls: run kernel k on the first n cells, with so many steps. */
-static void run_forecast(int k, size_t n, uint32_t steps)
+static void forecast(int k, size_t n, uint32_t steps, const uint32_t *caps)
 {
-    static forecaster *const kernels[] = { plain_forecast, tuned_one_pass, tuned_two_passes,
+    static forecaster *const kernels[] = { plain_forecast, tuned_one_pass, tuned_two_passes, tuned_limits, tuned_floats,
                                            EARLIER(before_forecast) proved_forecast };
     struct result *to = &results[k];
-    kernels[k](&road, cells, n, up, down, steps, to->cells, &to->entered, &to->left);
+    kernels[k](&road, cells, n, up, down, steps, caps, to->cells, &to->entered, &to->left);
 }
 
-static void run_settle(int k, size_t n, uint32_t steps)
+static void run_forecast(int k, size_t n, uint32_t steps) { forecast(k, n, steps, open_caps); }
+static void run_narrow_forecast(int k, size_t n, uint32_t steps) { forecast(k, n, steps, narrow_caps); }
+
+static void settle(int k, size_t n, uint32_t steps, const uint32_t *caps)
 {
     static settler *const kernels[] = { plain_settle, tuned_settle, EARLIER(before_settle) proved_settle };
     struct result *to = &results[k];
     /* A little more enters than leaves until the road is full, which takes longer than the horizon. */
-    kernels[k](&road, cells, n, 100000, 601000, steps, to->cells, &to->settled, &to->steps);
+    kernels[k](&road, cells, n, 100000, 601000, steps, caps, to->cells, &to->settled, &to->steps);
 }
+
+static void run_settle(int k, size_t n, uint32_t steps) { settle(k, n, steps, open_caps); }
+static void run_narrow_settle(int k, size_t n, uint32_t steps) { settle(k, n, steps, narrow_caps); }
 
 static void run_read(int k, size_t n, uint32_t steps)
 {
@@ -93,8 +100,9 @@ static void run_rising(int k, size_t n, uint32_t steps)
 }
 
 /* The kernels of the calls that have several contests. */
-#define FORECASTERS { "plain C, division", "tuned C, one pass", "tuned C, two passes", EARLIER("before") "welgadou_forecast" }, \
-    4 + ONE_MORE
+#define FORECASTERS { "plain C, division", "tuned C, one pass", "tuned C, two passes", "tuned C, limits", "tuned C, floats", \
+    EARLIER(BEFORE) "welgadou_forecast" }, 6 + ONE_MORE
+#define SETTLERS { "plain C, division", "tuned C, limits", EARLIER(BEFORE) "welgadou_settle" }, 3 + ONE_MORE
 #define RANKERS { "plain C", "tuned C, counting", EARLIER("before") "welgadou_nearest" }, 3 + ONE_MORE
 
 /* A call with its kernels, plain C first and the proved one last, and how often it is made for one time. */
@@ -104,9 +112,11 @@ static const struct contest {
     void (*run)(int k, size_t n, uint32_t steps);
 } contests[] = {
     { "forecast", FORECASTERS, 1, STEPS, run_forecast },
+    { "forecast, narrow caps", FORECASTERS, 1, STEPS, run_narrow_forecast },
     { "forecast, one step", FORECASTERS, 1000, 1, run_forecast },
-    { "settle", { "plain C, division", "tuned C, two passes", EARLIER("before") "welgadou_settle" }, 3 + ONE_MORE, 1, STEPS,
-      run_settle },
+    { "forecast, one step, narrow caps", FORECASTERS, 1000, 1, run_narrow_forecast },
+    { "settle", SETTLERS, 1, STEPS, run_settle },
+    { "settle, narrow caps", SETTLERS, 1, STEPS, run_narrow_settle },
     { "read", { "plain C", "tuned C, two passes", EARLIER("before") "welgadou_read" }, 3 + ONE_MORE, 1000, 0, run_read },
     { "rows", { "plain C", "tuned C, two passes", EARLIER("before") "welgadou_rows" }, 3 + ONE_MORE, 1000, 0, run_rows },
     { "nearest", RANKERS, 100, 0, run_nearest },
@@ -138,7 +148,7 @@ static void measure(const struct contest *c, size_t n, uint32_t steps, double be
                 best[k] = took;
         }
     for (int k = 1; k < c->kernels; k++)
-        if (strcmp(c->names[k], "before") && memcmp(&results[0], &results[k], sizeof results[0])) {
+        if (strncmp(c->names[k], "before", 6) && memcmp(&results[0], &results[k], sizeof results[0])) {
             fprintf(stderr, "%s: %s differs from plain C\n", c->call, c->names[k]);
             exit(1);
         }
@@ -177,6 +187,18 @@ static void compare(const struct contest *c)
     printf("\n");
 }
 
+/* Caps that are not seen in the result would show nothing. */
+static void must_differ(void (*open)(int, size_t, uint32_t), void (*narrow)(int, size_t, uint32_t), uint32_t steps)
+{
+    memset(results, 0, sizeof results);
+    open(0, CELLS, steps);
+    narrow(1, CELLS, steps);
+    if (!memcmp(&results[0], &results[1], sizeof results[0])) {
+        fprintf(stderr, "the narrow caps do not bind\n");
+        exit(1);
+    }
+}
+
 int main(void)
 {
     uint32_t seed = 1;
@@ -190,6 +212,14 @@ int main(void)
         up[t] = (seed = seed * 1664525u + 1013904223u) % (road.jam + 1);
         down[t] = (seed = seed * 1664525u + 1013904223u) % (road.jam + 1);
     }
+    /* Every fourth face is narrowed, and carries at most from about a half to two thirds of what it could. */
+    for (int i = 0; i <= CELLS; i++) {
+        open_caps[i] = WELGADOU_OPEN;
+        narrow_caps[i] = i % 4 ? WELGADOU_OPEN : 79000 + (seed = seed * 1664525u + 1013904223u) % 30000;
+    }
+    must_differ(run_forecast, run_narrow_forecast, STEPS);
+    must_differ(run_forecast, run_narrow_forecast, 1);
+    must_differ(run_settle, run_narrow_settle, STEPS);
     /* A legal word, most likely not the state's own. */
     for (int i = 0; i <= CELLS; i++)
         do

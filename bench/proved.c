@@ -13,20 +13,21 @@ static void accepted(uint32_t number, uint32_t place)
 }
 
 void proved_forecast(const struct road *r, const uint32_t *x, size_t n, const uint32_t *ups, const uint32_t *downs,
-                            uint32_t horizon, uint32_t *out, uint64_t *entered, uint64_t *left)
+                            uint32_t horizon, const uint32_t *caps, uint32_t *out, uint64_t *entered, uint64_t *left)
 {
     uint64_t total_entered = 0, total_left = 0;
     uint32_t place;
-    uint32_t number = welgadou_forecast(WELGADOU_ROAD(*r), x, n, ups, horizon, downs, horizon, horizon, out, n,
-                                        entered, left, &total_entered, &total_left, &place);
+    uint32_t number = welgadou_forecast(WELGADOU_ROAD(*r), x, n, ups, horizon, downs, horizon, horizon, caps, n + 1,
+                                        out, n, entered, left, &total_entered, &total_left, &place);
     accepted(number, place);
 }
 
 void proved_settle(const struct road *r, const uint32_t *x, size_t n, uint32_t before, uint32_t after,
-                          uint32_t horizon, uint32_t *out, uint32_t *settled, uint32_t *steps)
+                          uint32_t horizon, const uint32_t *caps, uint32_t *out, uint32_t *settled, uint32_t *steps)
 {
     uint32_t place;
-    uint32_t number = welgadou_settle(WELGADOU_ROAD(*r), x, n, before, after, horizon, out, n, settled, steps, &place);
+    uint32_t number = welgadou_settle(WELGADOU_ROAD(*r), x, n, before, after, horizon, caps, n + 1, out, n, settled,
+                                      steps, &place);
     accepted(number, place);
 }
 

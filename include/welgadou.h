@@ -9,13 +9,13 @@
  * Every function below was proved against its contract before it was compiled, for all inputs, not only for tested ones:
  *
  *   - It returns, whatever it is given.
- *   - It judges road, lists and values by itself. Bad input gets the lowest number of the table under REFUSALS that
- *     applies to the call, with that number's place. Nothing else is ever refused.
+ *   - It judges road, lists and values by itself. Bad input gets the first number in the call's order of checks (see
+ *     REFUSALS) that applies to it, with that number's place. Nothing else is ever refused.
  *   - A refused call writes to `place` and to nothing else.
  *   - The results of an accepted call are those that the comments below define, number by number.
- *   - A forecast's densities lie from 0 to jam; the units at the start plus those entered are the units at the end plus
- *     those left; and the divisor times the distance from the same forecast made without rounding, summed over the
- *     cells, is at most cells x steps x (divisor - 1).
+ *   - A forecast's densities lie from 0 to jam, whatever its caps; the units at the start plus those entered are the
+ *     units at the end plus those left; and the divisor times the distance from the same forecast, with the same caps,
+ *     made without rounding, summed over the cells, is at most cells x steps x (divisor - 1).
  *   - The cells that a forecast or a settling run hands back are accepted as the next one's start, on the same road,
  *     whatever its other inputs, as long as these pass their own checks and no total would pass the largest: for ever.
  *     Where forecasts carry their totals on from 0, none is refused with 19 while they make at most 18,446,744,073,709
@@ -55,7 +55,7 @@
  * A list of length 0 may come with a null pointer: nothing is read or written through it. Other pointers are never null.
  * Nothing else is owed. The library keeps nothing between calls, takes no heap and calls no other library, so that
  * several threads may call it at once, each with memory of its own. The stack of the largest call, welgadou_forecast, was
- * measured at up to 1,680 bytes; 1,024 of them are a working list of 256 densities, the only list of densities that the
+ * measured at up to 1,793 bytes; 1,024 of them are a working list of 256 densities, the only list of densities that the
  * library has besides yours. Every other call was measured at up to 496 bytes, and a test holds it to 512.
  *
  * No call throws, and none calls back. The library has no unwind tables: neither an exception, such as one thrown by a
@@ -64,9 +64,9 @@
  * EXPORTED NAMES
  *
  * A call whose parameters change gets the next number in its exported name, and a macro here maps the plain name to it:
- * welgadou_forecast is exported as welgadou_forecast_2, welgadou_candidate as welgadou_candidate_2. So what was compiled
- * with an older header does not link, where it would else pass wrong arguments in silence. Write the plain names; only
- * dlsym and a debugger want the exported ones.
+ * welgadou_forecast is exported as welgadou_forecast_3, welgadou_settle as welgadou_settle_2, welgadou_candidate as
+ * welgadou_candidate_2. So what was compiled with an older header does not link, where it would else pass wrong arguments
+ * in silence. Write the plain names; only dlsym and a debugger want the exported ones.
  *
  * THE ROAD AND ITS UNITS
  *
@@ -97,8 +97,17 @@
  *   D, 2   a is not above critical, and wave x (jam - b) >= free x a
  *
  * A word is the letters of all faces, face 0 first. D never follows W, and L never follows L: a word that keeps to this
- * is legal. A step moves all faces' units at once, worked from the densities before it: a cell's new density is its old
- * one, plus the units over the face before it, minus those over the face after it.
+ * is legal.
+ *
+ * STEPS AND CAPS
+ *
+ * Roadworks narrow single faces. A forecast and a settling run take a list of caps, whole units a step, one a face, face 0
+ * first, the same in all steps of the call. A face then moves the smaller of its units and its cap; without rounding, the
+ * smaller of numerator / divisor and its cap. 0 closes a face, WELGADOU_OPEN leaves it as it is. A cap has no bound: any
+ * number is accepted. Letters, words, modes and rows describe the road without caps, those of a settling run as well.
+ *
+ * A step moves what all faces move at once, worked from the densities before it: a cell's new density is its old one,
+ * plus what moves over the face before it, minus what moves over the face after it.
  *
  * REFUSALS
  *
@@ -128,9 +137,17 @@
  *    18      a station's estimate is below 0 or above jam              0
  *    19      total_entered or total_left would pass                    0
  *            18,446,744,073,709,551,615
+ *    20      a list of caps is not n + 1 long                          0
  *    (none)  0: accepted                                               0
  *
  * A call with one pair of ends reports 10 and 11 at place 0. The number 12 takes the lowest face with either fault.
+ *
+ * Of several numbers that apply a call returns the first in its order of checks. For two calls this order is
+ *
+ *    welgadou_forecast   1 to 8, 20, 9 to 11, 19
+ *    welgadou_settle     1 to 6, 8, 20, 9 to 11
+ *
+ * and for every other call it is that of the numbers: the lowest one is returned.
  *
  * After a refusal nothing but `place` has changed: mend what number and place name, and call again. The same input always
  * gets the same answer.
@@ -145,17 +162,20 @@
 extern "C" {
 #endif
 
-/* The version of this header: ten thousand a major, a hundred a minor version. 0.7.0 is 700. */
-#define WELGADOU_VERSION 700
+/* The version of this header: ten thousand a major, a hundred a minor version. 0.8.0 is 800. */
+#define WELGADOU_VERSION 800
 
 /* Returns: the version of the library that is linked, WELGADOU_VERSION where it is the one of this header. */
 uint32_t welgadou_version(void);
 
 /* The bytes of stack that suffice for any call. */
-#define WELGADOU_STACK 1792
+#define WELGADOU_STACK 1920
 
 /* The letter codes of a word. */
 enum { WELGADOU_W = 0, WELGADOU_L = 1, WELGADOU_D = 2 };
+
+/* The cap of a face that is not narrowed: no face moves so many units. */
+#define WELGADOU_OPEN UINT32_C(4294967295)
 
 /* A road for a program to keep, and its five numbers in the order in which every call takes them:
  *
@@ -210,26 +230,28 @@ uint32_t welgadou_count_ceiling(void);
  *           upstream, upstream_len:       the density before cell 1, one for each step, the first step's first.
  *           downstream, downstream_len:   the density after cell n, likewise. Both lengths are `horizon`.
  *           horizon:                      how many steps to make. With 0 the start comes back.
+ *           caps, caps_len:               the most that each face moves in a step; caps_len is n + 1.
  * In/Out:   total_entered, total_left:    the totals so far; where 0 is returned the first is increased by `entered`, the
  *                                         second by `left`.
  * Out:      out, out_len:                 the n densities after the last step; out_len is n.
  *           entered:                      the units that moved over face 0, in all steps of this call together.
  *           left:                         the units that moved over face n, in all steps of this call together.
  *           place:                        0, or the place of the refusal.
- * Refusals: 1 to 11, 19; 19 is judged last.
+ * Refusals: 1 to 8, 20, 9 to 11, 19, judged in this order.
  */
-#define welgadou_forecast welgadou_forecast_2
+#define welgadou_forecast welgadou_forecast_3
 uint32_t welgadou_forecast(uint32_t divisor, uint32_t free, uint32_t wave, uint32_t jam, uint32_t critical,
                            const uint32_t *cells, size_t cells_len,
                            const uint32_t *upstream, size_t upstream_len,
                            const uint32_t *downstream, size_t downstream_len,
                            uint32_t horizon,
+                           const uint32_t *caps, size_t caps_len,
                            uint32_t *out, size_t out_len,
                            uint64_t *entered, uint64_t *left,
                            uint64_t *total_entered, uint64_t *total_left, uint32_t *place);
 
 /* Steps with one pair of ends until a step would be still, or the horizon is used up. A step is still where every face
- * keeps its letter and the cells keep their sum.
+ * keeps its letter and the cells keep their sum. The letters are the road's, without caps; the steps keep to the caps.
  *
  * Returns:  0, or the number of the refusal.
  * In:       divisor, free, wave, jam, critical: the road.
@@ -237,16 +259,19 @@ uint32_t welgadou_forecast(uint32_t divisor, uint32_t free, uint32_t wave, uint3
  *           upstream, downstream:         the densities beyond the two ends, in every step. They are judged even where
  *                                         the horizon is 0.
  *           horizon:                      how many steps to make at most.
+ *           caps, caps_len:               the most that each face moves in a step; caps_len is n + 1.
  * Out:      out, out_len:                 the n densities reached; out_len is n.
  *           settled:                      1 where some k below the horizon has step k + 1 still, else 0.
  *           steps:                        the least such k, else the horizon: the steps that lead to `out`.
  *           place:                        0, or the place of the refusal.
- * Refusals: 1 to 6, 8 to 11.
+ * Refusals: 1 to 6, 8, 20, 9 to 11, judged in this order.
  */
+#define welgadou_settle welgadou_settle_2
 uint32_t welgadou_settle(uint32_t divisor, uint32_t free, uint32_t wave, uint32_t jam, uint32_t critical,
                          const uint32_t *cells, size_t cells_len,
                          uint32_t upstream, uint32_t downstream,
                          uint32_t horizon,
+                         const uint32_t *caps, size_t caps_len,
                          uint32_t *out, size_t out_len,
                          uint32_t *settled, uint32_t *steps, uint32_t *place);
 
@@ -254,7 +279,7 @@ uint32_t welgadou_settle(uint32_t divisor, uint32_t free, uint32_t wave, uint32_
  * Level 2: letters, modes and rows
  *
  * The mode of a cell follows from the letters of the faces before and after it. Each mode has a row, which gives the
- * density of a cell in that mode after one step, times the divisor, before any rounding:
+ * density of a cell in that mode after one step without caps, times the divisor, before any rounding:
  *
  *    Mode  Letters  Row
  *     1    W W      divisor x own  - wave x own      + wave x right
@@ -309,7 +334,9 @@ uint32_t welgadou_fit(uint32_t divisor, uint32_t free, uint32_t wave, uint32_t j
 
 /* Applies the rows of a legal word to a state, whether or not the word is the state's own. With its own word each number
  * is exactly the next density before rounding, times the divisor, and the rounded one times the divisor is less than a
- * divisor away.
+ * divisor away: of a step with open caps at every cell, of a step with any caps at each cell where neither face's cap
+ * binds, that is where the numerator of the face before it and that of the face after it are at most cap x divisor.
+ * Elsewhere the number is the same, the row's, and says nothing of the capped step.
  * With a foreign word a number may be negative.
  *
  * Returns:  0, or the number of the refusal.

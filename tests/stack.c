@@ -29,7 +29,8 @@ static const welgadou_road roads[] = {
     { 5, 4, 1, 1000, 201 },
 };
 static welgadou_road road;
-static uint32_t cells[CELLS + 1], upstream[STEPS + 1], downstream[STEPS + 1], out[CELLS + 1], n, horizon, mode;
+static uint32_t cells[CELLS + 1], upstream[STEPS + 1], downstream[STEPS + 1], caps[CELLS + 2], out[CELLS + 1];
+static uint32_t n, horizon, caps_len, mode;
 static uint32_t settled, steps, counts[7], queued, holds, face, place, number;
 static uint64_t entered, left, total_entered, total_left, words;
 static uint8_t letters[CELLS + 2], modes[CELLS + 1];
@@ -44,15 +45,15 @@ static unsigned full;
 
 static void forecast(void)
 {
-    number = welgadou_forecast(WELGADOU_ROAD(road), cells, n, upstream, horizon, downstream, horizon, horizon, out, n,
-                               &entered, &left, &total_entered, &total_left, &place);
+    number = welgadou_forecast(WELGADOU_ROAD(road), cells, n, upstream, horizon, downstream, horizon, horizon, caps,
+                               caps_len, out, n, &entered, &left, &total_entered, &total_left, &place);
     full += number == 19;
 }
 
 static void settle(void)
 {
-    number = welgadou_settle(WELGADOU_ROAD(road), cells, n, upstream[0], downstream[0], horizon, out, n, &settled,
-                             &steps, &place);
+    number = welgadou_settle(WELGADOU_ROAD(road), cells, n, upstream[0], downstream[0], horizon, caps, caps_len, out, n,
+                             &settled, &steps, &place);
 }
 
 static void read_state(void)
@@ -174,12 +175,14 @@ static void make_all(void)
     }
 }
 
-/* Densities all over the range, the same in every run. */
+/* Densities all over the range and caps that now and then bind, the same in every run. */
 static void fill(uint32_t seed, uint32_t jam)
 {
     size_t i;
     for (i = 0; i <= CELLS; i++)
         cells[i] = (seed = seed * 1664525u + 1013904223u) % (jam + 1);
+    for (i = 0; i <= CELLS + 1; i++)
+        caps[i] = (seed = seed * 1664525u + 1013904223u) >> 31 ? WELGADOU_OPEN : seed % (jam + 1);
     for (i = 0; i <= STEPS; i++) {
         upstream[i] = (seed = seed * 1664525u + 1013904223u) % (jam + 1);
         downstream[i] = (seed = seed * 1664525u + 1013904223u) % (jam + 1);
@@ -200,14 +203,15 @@ int main(void)
             for (h = 0; h < sizeof horizons / sizeof *horizons; h++) {
                 n = lengths[l];
                 horizon = horizons[h];
-                for (i = 0; i < 8; i++) {
+                for (i = 0; i < 9; i++) {
                     mode = all_modes[(h + i) % 10];
-                    given[0] = all_given[i];
+                    given[0] = all_given[i % 8];
                     given[1] = all_given[(i + h) % 8];
                     given[2] = all_given[(i + l) % 8];
                     fill((uint32_t)(r + l + h + i), roads[r].jam);
                     total_entered = i == 4 ? UINT64_MAX : 0;
                     total_left = i == 5 ? UINT64_MAX : 0;
+                    caps_len = i == 8 ? n : n + 1;
                     if (i == 6)
                         cells[n / 2] = roads[r].jam + 1;
                     if (i == 7)

@@ -44,6 +44,7 @@ static const char *words(uint32_t number)
     case 17: return "a station's lone speed times the divisor, rounded, is not below free: no single density";
     case 18: return "a station's estimate is below 0 or above the jam density";
     case 19: return "a total since commissioning would pass the largest 64-bit number";
+    case 20: return "the list of caps is not one longer than the cells";
     default: return "unknown";
     }
 }
@@ -86,6 +87,8 @@ int main(void)
     const uint32_t upstream[STEPS] = { 100, 100, 120, 150 };
     const uint32_t downstream[STEPS] = { 0, 0, 0, 900 };
     const uint32_t ends[CALLS][2] = { { 100, 0 }, { 100, 0 }, { 1001, 0 }, { 120, 0 }, { 150, 900 } };
+    const uint32_t open[CELLS + 1] = { WELGADOU_OPEN, WELGADOU_OPEN, WELGADOU_OPEN, WELGADOU_OPEN };
+    const uint32_t roadworks[CELLS + 1] = { WELGADOU_OPEN, 50, WELGADOU_OPEN, WELGADOU_OPEN };
     uint32_t out[CELLS], on_road[CELLS], settled, steps, counts[7], queued, holds, face, place, number;
     uint64_t entered, left, total_entered, total_left, legal;
     uint8_t letters[CELLS + 1], modes[CELLS];
@@ -106,16 +109,26 @@ int main(void)
            welgadou_cells_ceiling(), welgadou_horizon_ceiling(), welgadou_divisor_ceiling(), welgadou_jam_ceiling(),
            welgadou_count_ceiling());
 
-    /* Level 1: the forecast, for each horizon up to the last. Each stands alone here: its totals begin with 0. */
+    /* Level 1: the forecast, for each horizon up to the last. Each stands alone here: its totals begin with 0. No face is
+     * narrowed. */
     printf("steps  cell 1, 2, 3       entered  left\n");
     for (horizon = 0; horizon <= STEPS; horizon++) {
         total_entered = total_left = 0;
         number = welgadou_forecast(WELGADOU_ROAD(road), cells, CELLS, upstream, horizon, downstream, horizon, horizon,
-                                   out, CELLS, &entered, &left, &total_entered, &total_left, &place);
+                                   open, CELLS + 1, out, CELLS, &entered, &left, &total_entered, &total_left, &place);
         if (refused("forecast", number, place))
             return 1;
         print_forecast(horizon, out, entered, left);
     }
+
+    /* Level 1: the last of them again with roadworks: over the face between the cells 1 and 2 go at most 50 units a step. */
+    total_entered = total_left = 0;
+    number = welgadou_forecast(WELGADOU_ROAD(road), cells, CELLS, upstream, STEPS, downstream, STEPS, STEPS,
+                               roadworks, CELLS + 1, out, CELLS, &entered, &left, &total_entered, &total_left, &place);
+    if (refused("forecast", number, place))
+        return 1;
+    printf("with roadworks after cell 1\n");
+    print_forecast(STEPS, out, entered, left);
 
     /* Level 1: the totals since commissioning, over five forecasts of one step, each from the last accepted one's cells.
      * The third has an end above the jam density: it is refused and changes nothing, and the fourth goes on from the
@@ -125,8 +138,8 @@ int main(void)
     total_entered = total_left = 0;
     for (call = 1; call <= CALLS; call++) {
         const uint32_t *pair = ends[call - 1];
-        number = welgadou_forecast(WELGADOU_ROAD(road), on_road, CELLS, &pair[0], 1, &pair[1], 1, 1, out, CELLS,
-                                   &entered, &left, &total_entered, &total_left, &place);
+        number = welgadou_forecast(WELGADOU_ROAD(road), on_road, CELLS, &pair[0], 1, &pair[1], 1, 1, open, CELLS + 1,
+                                   out, CELLS, &entered, &left, &total_entered, &total_left, &place);
         if (refused("forecast", number, place))
             continue;
         memcpy(on_road, out, sizeof on_road);
@@ -138,7 +151,8 @@ int main(void)
         return 1;
 
     /* Level 1: how the state settles with ends that stay. */
-    number = welgadou_settle(WELGADOU_ROAD(road), cells, CELLS, 100, 0, 1000, out, CELLS, &settled, &steps, &place);
+    number = welgadou_settle(WELGADOU_ROAD(road), cells, CELLS, 100, 0, 1000, open, CELLS + 1, out, CELLS, &settled,
+                             &steps, &place);
     if (refused("settle", number, place))
         return 1;
     printf("%s after %" PRIu32 " steps:", settled ? "settled" : "unsettled", steps);

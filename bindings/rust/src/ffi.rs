@@ -18,17 +18,18 @@ extern "C" {
     fn welgadou_divisor_ceiling() -> u32;
     fn welgadou_jam_ceiling() -> u32;
     fn welgadou_count_ceiling() -> u32;
-    #[link_name = "welgadou_forecast_2"]
+    #[link_name = "welgadou_forecast_3"]
     fn welgadou_forecast(
         divisor: u32, free: u32, wave: u32, jam: u32, critical: u32, cells: *const u32, cells_len: usize,
         upstream: *const u32, upstream_len: usize, downstream: *const u32, downstream_len: usize, horizon: u32,
-        out: *mut u32, out_len: usize, entered: *mut u64, left: *mut u64, total_entered: *mut u64,
-        total_left: *mut u64, place: *mut u32,
+        caps: *const u32, caps_len: usize, out: *mut u32, out_len: usize, entered: *mut u64, left: *mut u64,
+        total_entered: *mut u64, total_left: *mut u64, place: *mut u32,
     ) -> u32;
+    #[link_name = "welgadou_settle_2"]
     fn welgadou_settle(
         divisor: u32, free: u32, wave: u32, jam: u32, critical: u32, cells: *const u32, cells_len: usize,
-        upstream: u32, downstream: u32, horizon: u32, out: *mut u32, out_len: usize, settled: *mut u32,
-        steps: *mut u32, place: *mut u32,
+        upstream: u32, downstream: u32, horizon: u32, caps: *const u32, caps_len: usize, out: *mut u32,
+        out_len: usize, settled: *mut u32, steps: *mut u32, place: *mut u32,
     ) -> u32;
     fn welgadou_read(
         divisor: u32, free: u32, wave: u32, jam: u32, critical: u32, cells: *const u32, cells_len: usize,
@@ -116,6 +117,7 @@ pub(crate) fn forecast(
     upstream: &[u32],
     downstream: &[u32],
     horizon: u32,
+    caps: &[u32],
     out: &mut [u32],
     moved: &mut Moved,
     totals: &mut Totals,
@@ -127,8 +129,8 @@ pub(crate) fn forecast(
         welgadou_forecast(
             r.divisor, r.free, r.wave, r.jam, r.critical, cells.as_ptr(), cells.len(),
             upstream.as_ptr(), upstream.len(), downstream.as_ptr(), downstream.len(), horizon,
-            out.as_mut_ptr(), out.len(), &mut moved.entered, &mut moved.left, &mut totals.entered, &mut totals.left,
-            &mut place,
+            caps.as_ptr(), caps.len(), out.as_mut_ptr(), out.len(), &mut moved.entered, &mut moved.left,
+            &mut totals.entered, &mut totals.left, &mut place,
         )
     };
     judged(number, place)
@@ -141,6 +143,7 @@ pub(crate) fn settle(
     upstream: u32,
     downstream: u32,
     horizon: u32,
+    caps: &[u32],
     out: &mut [u32],
     settled: &mut u32,
     steps: &mut u32,
@@ -151,7 +154,7 @@ pub(crate) fn settle(
     let number = unsafe {
         welgadou_settle(
             r.divisor, r.free, r.wave, r.jam, r.critical, cells.as_ptr(), cells.len(), upstream, downstream, horizon,
-            out.as_mut_ptr(), out.len(), settled, steps, &mut place,
+            caps.as_ptr(), caps.len(), out.as_mut_ptr(), out.len(), settled, steps, &mut place,
         )
     };
     judged(number, place)

@@ -91,7 +91,8 @@ pub fn fit(road: &Road, cells: &[u32], upstream: u32, downstream: u32, word: &[u
 }
 
 /// Writes the value of each cell's row by the legal word `word`: with the state's own word the next density times the
-/// divisor, before rounding. Refuses with the numbers 1 to 5 and 8 to 12.
+/// divisor, before rounding, of a step with open caps; of a capped step at each cell where neither face's cap binds, that
+/// is where the flow numerators of both its faces are at most cap x divisor. Refuses with the numbers 1 to 5 and 8 to 12.
 ///
 /// ```
 /// use welgadou::letter::{D, L, W};

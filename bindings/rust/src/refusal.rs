@@ -3,12 +3,13 @@
 use std::error::Error;
 use std::fmt;
 
-/// Why a call did not accept its input: the lowest number of the refusal table that applies, and its place.
+/// Why a call did not accept its input: the first number in the call's order of checks that applies, and its place.
+/// Each call names its numbers in this order.
 ///
 /// ```
 /// let road = welgadou::Road { divisor: 5, free: 4, wave: 1, jam: 1000, critical: 200 };
 /// let mut out = [7; 2];
-/// let refusal = welgadou::settle(&road, &[300, 1001], 0, 0, 9, &mut out).unwrap_err();
+/// let refusal = welgadou::settle(&road, &[300, 1001], 0, 0, 9, &[welgadou::OPEN; 3], &mut out).unwrap_err();
 /// assert_eq!((refusal.number, refusal.place), (9, 2));
 /// assert_eq!(refusal.to_string(), "refusal 9 at cell 2: a cell is above the jam density");
 /// assert_eq!(out, [7; 2]);
@@ -44,6 +45,7 @@ fn words(number: u32) -> (&'static str, &'static str) {
         17 => ("place", "a station's lone speed times the divisor, rounded, is not below free: no single density"),
         18 => ("place", "a station's estimate is below 0 or above the jam density"),
         19 => ("place", "a total would pass 18,446,744,073,709,551,615"),
+        20 => ("place", "the list of caps is not one longer than the cells"),
         _ => ("place", "the refusal table has no such number"),
     }
 }

@@ -34,9 +34,9 @@ impl Road {
     /// ```
     /// let road = welgadou::Road { divisor: 5, free: 4, wave: 1, jam: 1000, critical: 200 };
     /// let most = welgadou::Road::cells_ceiling() as usize;
-    /// let (cells, mut out) = (vec![0; most + 1], vec![0; most + 1]);
-    /// assert!(welgadou::settle(&road, &cells[..most], 0, 0, 1, &mut out[..most]).is_ok());
-    /// assert_eq!(welgadou::settle(&road, &cells, 0, 0, 1, &mut out).unwrap_err().number, 5);
+    /// let (cells, caps, mut out) = (vec![0; most + 1], vec![welgadou::OPEN; most + 2], vec![0; most + 1]);
+    /// assert!(welgadou::settle(&road, &cells[..most], 0, 0, 1, &caps[..most + 1], &mut out[..most]).is_ok());
+    /// assert_eq!(welgadou::settle(&road, &cells, 0, 0, 1, &caps, &mut out).unwrap_err().number, 5);
     /// ```
     pub fn cells_ceiling() -> u32 {
         ffi::cells_ceiling()
@@ -47,8 +47,8 @@ impl Road {
     /// ```
     /// let road = welgadou::Road { divisor: 5, free: 4, wave: 1, jam: 1000, critical: 200 };
     /// let most = welgadou::Road::horizon_ceiling();
-    /// assert!(welgadou::settle(&road, &[0], 0, 0, most, &mut [0]).is_ok());
-    /// assert_eq!(welgadou::settle(&road, &[0], 0, 0, most + 1, &mut [0]).unwrap_err().number, 6);
+    /// assert!(welgadou::settle(&road, &[0], 0, 0, most, &[welgadou::OPEN; 2], &mut [0]).is_ok());
+    /// assert_eq!(welgadou::settle(&road, &[0], 0, 0, most + 1, &[welgadou::OPEN; 2], &mut [0]).unwrap_err().number, 6);
     /// ```
     pub fn horizon_ceiling() -> u32 {
         ffi::horizon_ceiling()
@@ -59,9 +59,9 @@ impl Road {
     /// ```
     /// let most = welgadou::Road::divisor_ceiling();
     /// let mut road = welgadou::Road { divisor: most, free: 4, wave: 1, jam: 1000, critical: 200 };
-    /// assert!(welgadou::settle(&road, &[0], 0, 0, 1, &mut [0]).is_ok());
+    /// assert!(welgadou::settle(&road, &[0], 0, 0, 1, &[welgadou::OPEN; 2], &mut [0]).is_ok());
     /// road.divisor = most + 1;
-    /// assert_eq!(welgadou::settle(&road, &[0], 0, 0, 1, &mut [0]).unwrap_err().number, 1);
+    /// assert_eq!(welgadou::settle(&road, &[0], 0, 0, 1, &[welgadou::OPEN; 2], &mut [0]).unwrap_err().number, 1);
     /// ```
     pub fn divisor_ceiling() -> u32 {
         ffi::divisor_ceiling()
@@ -72,9 +72,9 @@ impl Road {
     /// ```
     /// let most = welgadou::Road::jam_ceiling();
     /// let mut road = welgadou::Road { divisor: 1, free: 1, wave: 1, jam: most, critical: most / 2 };
-    /// assert!(welgadou::settle(&road, &[0], 0, 0, 1, &mut [0]).is_ok());
+    /// assert!(welgadou::settle(&road, &[0], 0, 0, 1, &[welgadou::OPEN; 2], &mut [0]).is_ok());
     /// road.jam = most + 1;
-    /// assert_eq!(welgadou::settle(&road, &[0], 0, 0, 1, &mut [0]).unwrap_err().number, 3);
+    /// assert_eq!(welgadou::settle(&road, &[0], 0, 0, 1, &[welgadou::OPEN; 2], &mut [0]).unwrap_err().number, 3);
     /// ```
     pub fn jam_ceiling() -> u32 {
         ffi::jam_ceiling()

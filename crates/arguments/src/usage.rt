@@ -40,6 +40,8 @@ density 20. The last keyword is end.
   pair UP DOWN       the end pair of settle, read, readlast, fit, rows, nearest
   horizon T          steps
   totals E L         units entered and left since commissioning; 0 0 without it
+  caps N ..          the most that each face moves a step, face 0 first; joined;
+                     all open without it
   word X ..          letters W, L, D or codes 0, 1, 2, face 0 first; joined
   mode M             1 to 7
   estimates L O R    left, own and right, whole
@@ -56,7 +58,8 @@ fn asked(page: &mut Page) {
     say::text(
         page,
         b"  forecast           needs road cells upstream downstream horizon; takes totals
-  settle             needs road cells pair horizon
+                     and caps
+  settle             needs road cells pair horizon; takes caps
   read               needs road cells pair; the state at the start
   readlast           needs what forecast does, and pair; the state at the end
   fit                needs road cells pair word

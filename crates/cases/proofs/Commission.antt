@@ -1,6 +1,7 @@
 -- The commission is met: each sentence from the public contracts alone, the printed table of the modes by computation.
 use mathlib.Core.Path.{_≡_, _∙_, refl, sym, ap, subst}
 use mathlib.Core.Bool.{Bool, true, false}
+use mathlib.Core.Logic.{_⊎_, inl, inr}
 use mathlib.Core.List.{List, map}
 use Prim.Native.Nat.{ℕ, _+_, _-_, _<_}
 use native.Mathlib.Omega.{arith}
@@ -45,7 +46,7 @@ use Rattle.site.specs.Station as Station
 use Rattle.site.specs.Station.{estimateOf, stationRefusal, stationAnswer, stationMeaning}
 use Rattle.site.specs.Nearest.{alters, ranking, numbersOf, changesOf, nearestRefusal, nearestAnswer, nearestNumber, nearestNumbers, nearestChanges, Smallest, Ranked}
 use Rattle.welgadou.specs.Parts.{flagOf}
-use Rattle.cases.specs.Calls.{ValuePlaces, PairWordPlaces, EstimatePlace, Outcome, Called, forecast, settle, read, fit, predict, candidate, count, station, nearest, welgadou-forecast, welgadou-settle, welgadou-read, welgadou-fit, welgadou-rows, welgadou-candidate, welgadou-count, welgadou-station, welgadou-nearest, AcceptedForecast, ForecastMade, ForecastChain, commissioned, fed, AcceptedSettling, SettlingMade, AcceptedReading, ReadingMade, AcceptedFit, FitMade, AcceptedRows, RowsMade, AcceptedCandidate, CandidateMade, AcceptedCount, CountMade, AcceptedStation, StationMade, AcceptedRanking, RankingMade}
+use Rattle.cases.specs.Calls.{forecastChecks, settleChecks, ValuePlaces, PairWordPlaces, EstimatePlace, Outcome, Called, forecast, settle, read, fit, predict, candidate, count, station, nearest, welgadou-forecast, welgadou-settle, welgadou-read, welgadou-fit, welgadou-rows, welgadou-candidate, welgadou-count, welgadou-station, welgadou-nearest, AcceptedForecast, ForecastMade, ForecastChain, commissioned, fed, AcceptedSettling, SettlingMade, AcceptedReading, ReadingMade, AcceptedFit, FitMade, AcceptedRows, RowsMade, AcceptedCandidate, CandidateMade, AcceptedCount, CountMade, AcceptedStation, StationMade, AcceptedRanking, RankingMade}
 use Rattle.cases.specs.Commission.{Demand1, Demand2, Demand3, SinceCommissioning, Commission}
 
 -- what is chosen by a call's number: the value where it is 0, else the former contents
@@ -80,7 +81,7 @@ record Told (o : Outcome) : Type 1 where
   kept : (o .refusal .number ≡ 0 → ⊥) → o .Kept
   table : o .refusal ≡ judge (o .rows)
   checks : map (λ r. r .number) (o .rows) ≡ o .checks
-  rises : T (rising 0 (o .rows))
+  rise : (o .checks ≡ forecastChecks) ⊎ ((o .checks ≡ settleChecks) ⊎ T (rising 0 (o .rows)))
   made : o .refusal .number ≡ 0 → o .Made
 
 told-as : {rows : List Row} {Checked : Type 0} {From To : Refusal → Type 0} {f : Refusal}
@@ -94,7 +95,7 @@ call-told _ (forecast c) = record {
   kept = λ n. former-of _ _ (λ z. n (ap (λ (m : Forecast.Meaning). m .number) (c .means) ∙ z)) (c .output);
   table = λ i. record { number = c .means i .number; place = c .means i .place };
   checks = refl;
-  rises = tt;
+  rise = inl refl;
   made = λ z. (_, value-of _ _ (sym (ap (λ (m : Forecast.Meaning). m .number) (c .means)) ∙ z) (c .answer));
 }
 call-told _ (settle c) = record {
@@ -102,7 +103,7 @@ call-told _ (settle c) = record {
   kept = λ n. former-of _ _ (λ z. n (ap (λ (m : Settle.Meaning). m .number) (c .means) ∙ z)) (c .output);
   table = λ i. record { number = c .means i .number; place = c .means i .place };
   checks = refl;
-  rises = tt;
+  rise = inr (inl refl);
   made = λ z. (_, value-of _ _ (sym (ap (λ (m : Settle.Meaning). m .number) (c .means)) ∙ z) (c .answer));
 }
 call-told _ (read c) = record {
@@ -110,20 +111,20 @@ call-told _ (read c) = record {
   kept = λ n. (former-of _ _ (λ z. n (c .number ∙ z)) (c .letters-written), former-of _ _ (λ z. n (c .number ∙ z)) (c .modes-written));
   table = λ i. record { number = c .number i; place = c .place i };
   checks = refl;
-  rises = tt;
+  rise = inr (inr tt);
   made = λ z. ap (λ (x : StateReading). x .answer) (value-of _ _ (sym (c .number) ∙ z) (c .answer));
 }
-call-told _ (fit c) = record { judged = told-as word-places (c .judged); kept = λ n. tt; table = λ i. record { number = c .means i .number; place = c .means i .place }; checks = refl; rises = tt; made = λ z. (_, value-of _ _ (sym (ap (λ (m : Fit.Meaning). m .number) (c .means)) ∙ z) (c .answer)) }
-call-told _ (predict c) = record { judged = told-as word-places (c .judged); kept = λ n. former-of _ _ (λ z. n (c .number ∙ z)) (c .output); table = λ i. record { number = c .number i; place = c .place i }; checks = refl; rises = tt; made = λ z. value-of _ _ (sym (c .number) ∙ z) (c .answer) }
-call-told _ (candidate {r = r} c) = record { judged = told-as (estimate-place r _ _ _) (c .judged); kept = λ n. tt; table = λ i. record { number = c .means i .number; place = c .means i .place }; checks = refl; rises = tt; made = λ z. (_, value-of _ _ (sym (ap (λ (m : Candidate.Meaning). m .number) (c .means)) ∙ z) (c .answer)) }
-call-told _ (count c) = record { judged = c .judged; kept = λ n. tt; table = λ i. record { number = c .means i .number; place = c .means i .place }; checks = refl; rises = tt; made = λ z. (_, value-of _ _ (sym (ap (λ (m : Count.Meaning). m .number) (c .means)) ∙ z) (c .answer)) }
-call-told _ (station c) = record { judged = c .judged; kept = λ n. tt; table = λ i. record { number = c .means i .number; place = c .means i .place }; checks = refl; rises = tt; made = λ z. (_, value-of _ _ (sym (ap (λ (m : Station.Meaning). m .number) (c .means)) ∙ z) (c .answer)) }
+call-told _ (fit c) = record { judged = told-as word-places (c .judged); kept = λ n. tt; table = λ i. record { number = c .means i .number; place = c .means i .place }; checks = refl; rise = inr (inr tt); made = λ z. (_, value-of _ _ (sym (ap (λ (m : Fit.Meaning). m .number) (c .means)) ∙ z) (c .answer)) }
+call-told _ (predict c) = record { judged = told-as word-places (c .judged); kept = λ n. former-of _ _ (λ z. n (c .number ∙ z)) (c .output); table = λ i. record { number = c .number i; place = c .place i }; checks = refl; rise = inr (inr tt); made = λ z. value-of _ _ (sym (c .number) ∙ z) (c .answer) }
+call-told _ (candidate {r = r} c) = record { judged = told-as (estimate-place r _ _ _) (c .judged); kept = λ n. tt; table = λ i. record { number = c .means i .number; place = c .means i .place }; checks = refl; rise = inr (inr tt); made = λ z. (_, value-of _ _ (sym (ap (λ (m : Candidate.Meaning). m .number) (c .means)) ∙ z) (c .answer)) }
+call-told _ (count c) = record { judged = c .judged; kept = λ n. tt; table = λ i. record { number = c .means i .number; place = c .means i .place }; checks = refl; rise = inr (inr tt); made = λ z. (_, value-of _ _ (sym (ap (λ (m : Count.Meaning). m .number) (c .means)) ∙ z) (c .answer)) }
+call-told _ (station c) = record { judged = c .judged; kept = λ n. tt; table = λ i. record { number = c .means i .number; place = c .means i .place }; checks = refl; rise = inr (inr tt); made = λ z. (_, value-of _ _ (sym (ap (λ (m : Station.Meaning). m .number) (c .means)) ∙ z) (c .answer)) }
 call-told _ (nearest c) = record {
   judged = told-as value-places (c .judged);
   kept = λ n. (former-of _ _ (λ z. n (c .number ∙ z)) (c .numbers-written), former-of _ _ (λ z. n (c .number ∙ z)) (c .changes-written));
   table = λ i. record { number = c .number i; place = c .place i };
   checks = refl;
-  rises = tt;
+  rise = inr (inr tt);
   made = λ z. value-of _ _ (sym (c .number) ∙ z) (c .answer);
 }
 call-told _ (welgadou-forecast c) = record {
@@ -131,7 +132,7 @@ call-told _ (welgadou-forecast c) = record {
   kept = λ n. (former-of _ _ (λ z. n (c .returned ∙ z)) (c .output), former-of _ _ n (c .entered-written), former-of _ _ n (c .left-written), former-of _ _ n (c .total-entered-written), former-of _ _ n (c .total-left-written));
   table = λ i. record { number = c .returned i; place = c .placed i };
   checks = refl;
-  rises = tt;
+  rise = inl refl;
   made = λ z. tt;
 }
 call-told _ (welgadou-settle c) = record {
@@ -139,7 +140,7 @@ call-told _ (welgadou-settle c) = record {
   kept = λ n. (former-of _ _ (λ z. n (c .returned ∙ z)) (c .output), former-of _ _ n (c .settled-written), former-of _ _ n (c .steps-written));
   table = λ i. record { number = c .returned i; place = c .placed i };
   checks = refl;
-  rises = tt;
+  rise = inr (inl refl);
   made = λ z. let (b, same, says) = c .settlement z in (b, same);
 }
 call-told _ (welgadou-read c) = record {
@@ -152,20 +153,20 @@ call-told _ (welgadou-read c) = record {
   );
   table = λ i. record { number = c .returned i; place = c .placed i };
   checks = refl;
-  rises = tt;
+  rise = inr (inr tt);
   made = λ z. tt;
 }
-call-told _ (welgadou-fit c) = record { judged = told-as word-places (c .judged); kept = λ n. (former-of _ _ n (c .holds-written), former-of _ _ n (c .face-written)); table = λ i. record { number = c .returned i; place = c .placed i }; checks = refl; rises = tt; made = λ z. let (b, same, says) = c .state z in (b, same) }
-call-told _ (welgadou-rows c) = record { judged = told-as word-places (c .judged); kept = λ n. former-of _ _ (λ z. n (c .returned ∙ z)) (c .output); table = λ i. record { number = c .returned i; place = c .placed i }; checks = refl; rises = tt; made = λ z. tt }
-call-told _ (welgadou-candidate {r = r} c) = record { judged = told-as (estimate-place r _ _ _) (c .judged); kept = λ n. former-of _ _ n (c .numerator-written); table = λ i. record { number = c .returned i; place = c .placed i }; checks = refl; rises = tt; made = λ z. tt }
-call-told _ (welgadou-count c) = record { judged = c .judged; kept = λ n. former-of _ _ n (c .words-written); table = λ i. record { number = c .returned i; place = c .placed i }; checks = refl; rises = tt; made = λ z. tt }
-call-told _ (welgadou-station c) = record { judged = c .judged; kept = λ n. former-of _ _ n (c .estimate-written); table = λ i. record { number = c .returned i; place = c .placed i }; checks = refl; rises = tt; made = λ z. tt }
+call-told _ (welgadou-fit c) = record { judged = told-as word-places (c .judged); kept = λ n. (former-of _ _ n (c .holds-written), former-of _ _ n (c .face-written)); table = λ i. record { number = c .returned i; place = c .placed i }; checks = refl; rise = inr (inr tt); made = λ z. let (b, same, says) = c .state z in (b, same) }
+call-told _ (welgadou-rows c) = record { judged = told-as word-places (c .judged); kept = λ n. former-of _ _ (λ z. n (c .returned ∙ z)) (c .output); table = λ i. record { number = c .returned i; place = c .placed i }; checks = refl; rise = inr (inr tt); made = λ z. tt }
+call-told _ (welgadou-candidate {r = r} c) = record { judged = told-as (estimate-place r _ _ _) (c .judged); kept = λ n. former-of _ _ n (c .numerator-written); table = λ i. record { number = c .returned i; place = c .placed i }; checks = refl; rise = inr (inr tt); made = λ z. tt }
+call-told _ (welgadou-count c) = record { judged = c .judged; kept = λ n. former-of _ _ n (c .words-written); table = λ i. record { number = c .returned i; place = c .placed i }; checks = refl; rise = inr (inr tt); made = λ z. tt }
+call-told _ (welgadou-station c) = record { judged = c .judged; kept = λ n. former-of _ _ n (c .estimate-written); table = λ i. record { number = c .returned i; place = c .placed i }; checks = refl; rise = inr (inr tt); made = λ z. tt }
 call-told _ (welgadou-nearest c) = record {
   judged = told-as value-places (c .judged);
   kept = λ n. (former-of _ _ (λ z. n (c .returned ∙ z)) (c .numbers-written), former-of _ _ (λ z. n (c .returned ∙ z)) (c .changes-written));
   table = λ i. record { number = c .returned i; place = c .placed i };
   checks = refl;
-  rises = tt;
+  rise = inr (inr tt);
   made = λ z. tt;
 }
 
@@ -175,7 +176,8 @@ demand1 = record {
   first = λ o c. call-told o c .judged .first .fits;
   returned = λ o c. call-told o c .judged .first .found;
   checks = λ o c. call-told o c .checks;
-  lowest = λ o c. call-told o c .judged .lowest (call-told o c .rises) .lowest;
+  lowest = λ o c rises. call-told o c .judged .lowest rises .lowest;
+  rise = λ o c. call-told o c .rise;
   place = λ o c. call-told o c .judged .placed;
   table = λ o c. call-told o c .table;
   no-other = λ o c. call-told o c .judged .no-other;
@@ -186,12 +188,13 @@ demand1 = record {
 -- ---- what each accepted call made, in one form for both layers
 -- an accepted forecast: demand 3, its steps face by face, its sums, and the totals
 record ForecastSays (x : AcceptedForecast) : Type 0 where
-  demand3 : Forecast.Demand3 (x .road) (x .cells) (x .ups) (x .downs) (x .horizon) (x .next) (x .entered) (x .left)
-  by-faces : RunByFaces (x .road) (x .ups) (x .downs) (x .cells) (x .next) (x .entered) (x .left)
-  in-sum : x .entered ≡ entered (x .road) (x .ups) (x .downs) (x .cells)
-  out-sum : x .left ≡ left (x .road) (x .ups) (x .downs) (x .cells)
+  caps-long : length (x .caps) ≡ length (x .cells) + 1
+  demand3 : Forecast.Demand3 (x .road) (x .caps) (x .cells) (x .ups) (x .downs) (x .horizon) (x .next) (x .entered) (x .left)
+  by-faces : RunByFaces (x .road) (x .caps) (x .ups) (x .downs) (x .cells) (x .next) (x .entered) (x .left)
+  in-sum : x .entered ≡ entered (x .road) (x .caps) (x .ups) (x .downs) (x .cells)
+  out-sum : x .left ≡ left (x .road) (x .caps) (x .ups) (x .downs) (x .cells)
   carried : x .totals-next ≡ Forecast.increased (x .totals) (record { entered = x .entered; left = x .left })
-  fits : Forecast.Fits (x .totals) (Forecast.ownOf (x .road) (x .cells) (x .ups) (x .downs))
+  fits : Forecast.Fits (x .totals) (Forecast.ownOf (x .road) (x .caps) (x .cells) (x .ups) (x .downs))
 
 forecast-says : (x : AcceptedForecast) → ForecastMade x → ForecastSays x
 unfolding forecastMeaning
@@ -199,6 +202,7 @@ forecast-says _ (forecast {d = d} c e) =
     let m = ap Forecast.meaning (sym e) ∙ c .means in
     let none = sym (ap (λ (x : Forecast.Meaning). x .number) m) in
     record {
+      caps-long = c .judged .accepted (ap (λ (x : ForecastAnswer). Forecast.meaning x .number) e) .input .caps-long;
       demand3 = c .demand3 d e;
       by-faces = c .by-faces d e;
       in-sum = value-of _ _ none (ap (λ (x : Forecast.Meaning). x .entered) m);
@@ -209,6 +213,7 @@ forecast-says _ (forecast {d = d} c e) =
 forecast-says _ (welgadou-forecast c z) =
     let none = sym (c .returned) ∙ z in
     record {
+      caps-long = c .judged .accepted z .input .caps-long;
       demand3 = c .demand3 z;
       by-faces = c .by-faces z;
       in-sum = value-of _ _ none (value-of _ _ z (c .entered-written));
@@ -225,7 +230,7 @@ same-flag false true e = absurd (omega arith)
 same-flag false false e = refl
 
 settling-says : (x : AcceptedSettling) → SettlingMade x
-    → Settlement (x .road) (x .cells) (x .up) (x .down) (x .horizon) (x .next) (record { settled = x .settled; steps = x .steps })
+    → Settlement (x .road) (x .caps) (x .cells) (x .up) (x .down) (x .horizon) (x .next) (record { settled = x .settled; steps = x .steps })
 settling-says _ (settle {s = s} c e) = c .settlement s e
 settling-says _ (welgadou-settle {b = b} c z q) = let (d, same, says) = c .settlement z in rw (same-flag b d (sym q ∙ same)) says
 
@@ -321,9 +326,11 @@ demand2 = record {
   compared-D = λ x c k h. fit-says x c .lettered k h .D;
   steps = λ x c. forecast-says x c .by-faces;
   settling-steps = λ x c. settling-says x c .by-faces;
-  own-rows = λ x c e. rows-say x c .own e .exact;
+  own-rows = λ x c e caps k h left right. rows-say x c .own e .exact caps k h (record { left = left; right = right });
   own-rows-exact = λ x c e. rows-say x c .own e .exact-step;
-  own-rows-near = λ x c e. rows-say x c .own e .near;
+  own-rows-near = λ x c e caps k h left right. rows-say x c .own e .near caps k h (record { left = left; right = right });
+  own-rows-open = λ x c e. rows-say x c .own e .plain;
+  own-rows-open-near = λ x c e. rows-say x c .own e .plain-near;
   entered = λ x c. forecast-says x c .in-sum;
   left = λ x c. forecast-says x c .out-sum;
   still-next = λ x c e. let s = settling-says x c in (s .least .within e, rw (s .state) (s .least .found e));
@@ -365,6 +372,7 @@ demand2 = record {
 demand3 : Demand3
 demand3 = record {
   pairs = λ x c. let d = forecast-says x c .demand3 in (d .ups-long, d .downs-long);
+  caps = λ x c. forecast-says x c .caps-long;
   densities = λ x c. let d = forecast-says x c .demand3 in (d .after-steps, d .long);
   within = λ x c. forecast-says x c .demand3 .within;
   balanced = λ x c. forecast-says x c .demand3 .balanced;

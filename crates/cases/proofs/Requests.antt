@@ -10,14 +10,18 @@ use Rattle.choice.specs.Choice.{pick}
 use Rattle.road.specs.Table.{row, judge, orIf}
 use Rattle.road.specs.Judgement.{roadRows, roadRefusal}
 use Rattle.road.specs.declared.refusal.Refusal.{Refusal}
-use Rattle.flux.specs.Face.{sending, receiving, numerator, units, inW, inL, letter}
+use Rattle.flux.specs.Face.{sending, receiving, numerator, units, scaled, inW, inL, letter}
 use Rattle.checks.specs.Values.{firstAbove}
 use Rattle.scheme.specs.Advance.{ahead, advance, outflow, entering, leaving, stepped}
 use Rattle.scheme.specs.Rounded.{roundRun, entered, left}
-use Rattle.scheme.specs.Sums.{sameList}
+use Rattle.scheme.specs.Sums.{sum as total, sameList}
+use Rattle.scheme.specs.Runs.{iterated}
+use Rattle.scheme.specs.Settling.{still, settles, settleSteps}
 use Rattle.scheme.specs.Word.{wordOf}
 use Rattle.forecast.specs.Forecast.{forecastRefusal, forecastAnswer, forecastCells}
+use Rattle.forecast.specs.Settle.{settleRefusal, settleAnswer}
 use Rattle.forecast.specs.Chain.{afterAll}
+use Rattle.rows.specs.Rows.{rowTable, rowOf, terms, dot, rowValue, rowNumerators}
 use Rattle.modes.specs.Modes.{modeOf, modesOf}
 use Rattle.modes.specs.Judging.{readRefusal}
 use Rattle.modes.specs.Reading.{countOf, countsOf, queuedOf, readAnswer}
@@ -50,7 +54,7 @@ unfolding tests orIf
 too-fast x g f = by-tests x g f refl refl
 
 pub requested : Requested
-unfolding sending receiving numerator units orIf roadRefusal firstAbove readRefusal readAnswer countOf countsOf queuedOf modeOf modesOf ahead advance outflow entering leaving stepped roundRun entered left forecastRefusal forecastAnswer forecastCells afterAll inW inL letter wordOf sameList alters searched change inserted rankedTo ranking round sum add mul div lt eq le ne ofInt ofBits speedDensity estimateOf badNumber badGiven tooFast
+unfolding sending receiving numerator units scaled rowTable rowOf terms dot rowValue rowNumerators orIf roadRefusal firstAbove readRefusal readAnswer countOf countsOf queuedOf modeOf modesOf ahead advance outflow entering leaving stepped roundRun entered left forecastRefusal forecastAnswer forecastCells total iterated still settles settleSteps settleRefusal settleAnswer afterAll inW inL letter wordOf sameList alters searched change inserted rankedTo ranking round sum add mul div lt eq le ne ofInt ofBits speedDensity estimateOf badNumber badGiven tooFast
 requested = record {
   density-1000 = accepted (Density (whole 1000)) 1000 125 (pos 3) refl refl refl refl refl;
   flow-80-speed-0·8 = accepted (FlowAndSpeed (whole 80) four-fifths) 100 25 (pos 2) refl refl refl refl refl;
@@ -74,4 +78,20 @@ requested = record {
   queued-just-above = refl;
   queued-5-above = refl;
   queued-5-below = refl;
+  caps-30 = refl;
+  caps-30-left = refl;
+  caps-30-exact = refl;
+  caps-80 = refl;
+  caps-80-left = refl;
+  caps-80-exact = refl;
+  caps-81 = refl;
+  caps-81-left = refl;
+  caps-81-exact = refl;
+  caps-row = refl;
+  caps-reached = refl;
+  caps-reached-exact = refl;
+  caps-reached-rows = refl;
+  caps-short = refl;
+  caps-short-exact = refl;
+  caps-settled = refl;
 }

@@ -103,12 +103,12 @@ EstimatePlace r left own right f =
 abbrev pub NoPlace : Refusal → Type 0
 NoPlace f = f .place ≡ 0
 
--- "Calls and their checks" (document 01; document 02, E1, E3 and E4): which numbers a call's table has, in their order
+-- "Calls and their checks" (document 01; document 02, E1, E3, E4 and E7): which numbers a call's table has, in the call's order of checks. 20 stands "after 8 and before 9"
 abbrev pub forecastChecks : List ℕ
-forecastChecks = 1 ∷ 2 ∷ 3 ∷ 4 ∷ 5 ∷ 6 ∷ 7 ∷ 8 ∷ 9 ∷ 10 ∷ 11 ∷ 19 ∷ []
+forecastChecks = 1 ∷ 2 ∷ 3 ∷ 4 ∷ 5 ∷ 6 ∷ 7 ∷ 8 ∷ 20 ∷ 9 ∷ 10 ∷ 11 ∷ 19 ∷ []
 
 abbrev pub settleChecks : List ℕ
-settleChecks = 1 ∷ 2 ∷ 3 ∷ 4 ∷ 5 ∷ 6 ∷ 8 ∷ 9 ∷ 10 ∷ 11 ∷ []
+settleChecks = 1 ∷ 2 ∷ 3 ∷ 4 ∷ 5 ∷ 6 ∷ 8 ∷ 20 ∷ 9 ∷ 10 ∷ 11 ∷ []
 
 abbrev pub readChecks : List ℕ
 readChecks = 1 ∷ 2 ∷ 3 ∷ 4 ∷ 5 ∷ 8 ∷ 9 ∷ 10 ∷ 11 ∷ []
@@ -145,23 +145,23 @@ pub record Outcome : Type 1 where
 
 -- the public calls
 pub data Called : Outcome → Type 1 where
-  forecast : {r : Road} {cells ups downs : List ℕ} {t : ℕ} {totals : Totals} {out next : List ℕ} {a : ForecastAnswer}
-      → Forecasts r cells ups downs t totals out next a
+  forecast : {r : Road} {caps cells ups downs : List ℕ} {t : ℕ} {totals : Totals} {out next : List ℕ} {a : ForecastAnswer}
+      → Forecasts r caps cells ups downs t totals out next a
       → Called (record {
-        rows = forecastRows r cells ups downs t totals (length out);
+        rows = forecastRows r caps cells ups downs t totals (length out);
         checks = forecastChecks;
-        Checked = Forecast.Checked r cells ups downs t totals (length out);
+        Checked = Forecast.Checked r caps cells ups downs t totals (length out);
         Placed = ValuePlaces r cells ups downs;
         refusal = refused (Forecast.meaning a .number) (Forecast.meaning a .place);
         Kept = next ≡ out;
         Made = (d : Record) × (a ≡ F.Done d);
       })
-  settle : {r : Road} {cells : List ℕ} {up down t : ℕ} {out next : List ℕ} {a : SettleAnswer}
-      → Settles r cells up down t out next a
+  settle : {r : Road} {caps cells : List ℕ} {up down t : ℕ} {out next : List ℕ} {a : SettleAnswer}
+      → Settles r caps cells up down t out next a
       → Called (record {
-        rows = settleRows r cells up down t (length out);
+        rows = settleRows r caps cells up down t (length out);
         checks = settleChecks;
-        Checked = SettleChecked r cells up down t (length out);
+        Checked = SettleChecked r caps cells up down t (length out);
         Placed = PairPlaces r cells up down;
         refusal = refused (Settle.meaning a .number) (Settle.meaning a .place);
         Kept = next ≡ out;
@@ -244,23 +244,23 @@ pub data Called : Outcome → Type 1 where
         Kept = (next-numbers ≡ numbers) × (next-changes ≡ changes);
         Made = a ≡ M.Done;
       })
-  welgadou-forecast : {r : Road} {cells ups downs : List ℕ} {t : ℕ} {totals totals-next : Totals} {out next : List ℕ} {entered entered-next left left-next place number : ℕ}
-      → Forecasted r cells ups downs t out next entered entered-next left left-next totals totals-next place number
+  welgadou-forecast : {r : Road} {caps cells ups downs : List ℕ} {t : ℕ} {totals totals-next : Totals} {out next : List ℕ} {entered entered-next left left-next place number : ℕ}
+      → Forecasted r caps cells ups downs t out next entered entered-next left left-next totals totals-next place number
       → Called (record {
-        rows = forecastRows r cells ups downs t totals (length out);
+        rows = forecastRows r caps cells ups downs t totals (length out);
         checks = forecastChecks;
-        Checked = Forecast.Checked r cells ups downs t totals (length out);
+        Checked = Forecast.Checked r caps cells ups downs t totals (length out);
         Placed = ValuePlaces r cells ups downs;
         refusal = refused number place;
         Kept = (next ≡ out) × (entered-next ≡ entered) × (left-next ≡ left) × (totals-next .entered ≡ totals .entered) × (totals-next .left ≡ totals .left);
         Made = Unit {0};
       })
-  welgadou-settle : {r : Road} {cells : List ℕ} {up down t : ℕ} {out next : List ℕ} {settled settled-next steps steps-next place number : ℕ}
-      → SettledRun r cells up down t out next settled settled-next steps steps-next place number
+  welgadou-settle : {r : Road} {caps cells : List ℕ} {up down t : ℕ} {out next : List ℕ} {settled settled-next steps steps-next place number : ℕ}
+      → SettledRun r caps cells up down t out next settled settled-next steps steps-next place number
       → Called (record {
-        rows = settleRows r cells up down t (length out);
+        rows = settleRows r caps cells up down t (length out);
         checks = settleChecks;
-        Checked = SettleChecked r cells up down t (length out);
+        Checked = SettleChecked r caps cells up down t (length out);
         Placed = PairPlaces r cells up down;
         refusal = refused number place;
         Kept = (next ≡ out) × (settled-next ≡ settled) × (steps-next ≡ steps);
@@ -348,6 +348,7 @@ pub data Called : Outcome → Type 1 where
 -- what an accepted call was given and what it made, of either layer: Done, or number 0
 pub record AcceptedForecast : Type 0 where
   pub road : Road
+  pub caps : List ℕ
   pub cells : List ℕ
   pub ups : List ℕ
   pub downs : List ℕ
@@ -359,10 +360,11 @@ pub record AcceptedForecast : Type 0 where
   pub totals-next : Totals
 
 pub data ForecastMade : AcceptedForecast → Type 0 where
-  forecast : {r : Road} {cells ups downs : List ℕ} {t : ℕ} {totals : Totals} {out next : List ℕ} {a : ForecastAnswer} {d : Record}
-      → Forecasts r cells ups downs t totals out next a → a ≡ F.Done d
+  forecast : {r : Road} {caps cells ups downs : List ℕ} {t : ℕ} {totals : Totals} {out next : List ℕ} {a : ForecastAnswer} {d : Record}
+      → Forecasts r caps cells ups downs t totals out next a → a ≡ F.Done d
       → ForecastMade (record {
         road = r;
+        caps = caps;
         cells = cells;
         ups = ups;
         downs = downs;
@@ -373,10 +375,11 @@ pub data ForecastMade : AcceptedForecast → Type 0 where
         left = d .own .left;
         totals-next = d .totals;
       })
-  welgadou-forecast : {r : Road} {cells ups downs : List ℕ} {t : ℕ} {totals totals-next : Totals} {out next : List ℕ} {entered entered-next left left-next place number : ℕ}
-      → Forecasted r cells ups downs t out next entered entered-next left left-next totals totals-next place number → number ≡ 0
+  welgadou-forecast : {r : Road} {caps cells ups downs : List ℕ} {t : ℕ} {totals totals-next : Totals} {out next : List ℕ} {entered entered-next left left-next place number : ℕ}
+      → Forecasted r caps cells ups downs t out next entered entered-next left left-next totals totals-next place number → number ≡ 0
       → ForecastMade (record {
         road = r;
+        caps = caps;
         cells = cells;
         ups = ups;
         downs = downs;
@@ -397,6 +400,7 @@ pub data ForecastChain (first : List ℕ) : List ℕ → Totals → Type 0 where
 
 pub record AcceptedSettling : Type 0 where
   pub road : Road
+  pub caps : List ℕ
   pub cells : List ℕ
   pub up : ℕ
   pub down : ℕ
@@ -406,12 +410,12 @@ pub record AcceptedSettling : Type 0 where
   pub steps : ℕ
 
 pub data SettlingMade : AcceptedSettling → Type 0 where
-  settle : {r : Road} {cells : List ℕ} {up down t : ℕ} {out next : List ℕ} {a : SettleAnswer} {s : Settled}
-      → Settles r cells up down t out next a → a ≡ S.Done s
-      → SettlingMade (record { road = r; cells = cells; up = up; down = down; horizon = t; next = next; settled = s .settled; steps = s .steps })
-  welgadou-settle : {r : Road} {cells : List ℕ} {up down t : ℕ} {out next : List ℕ} {settled settled-next steps steps-next place number : ℕ} {b : Bool}
-      → SettledRun r cells up down t out next settled settled-next steps steps-next place number → number ≡ 0 → settled-next ≡ flagOf b
-      → SettlingMade (record { road = r; cells = cells; up = up; down = down; horizon = t; next = next; settled = b; steps = steps-next })
+  settle : {r : Road} {caps cells : List ℕ} {up down t : ℕ} {out next : List ℕ} {a : SettleAnswer} {s : Settled}
+      → Settles r caps cells up down t out next a → a ≡ S.Done s
+      → SettlingMade (record { road = r; caps = caps; cells = cells; up = up; down = down; horizon = t; next = next; settled = s .settled; steps = s .steps })
+  welgadou-settle : {r : Road} {caps cells : List ℕ} {up down t : ℕ} {out next : List ℕ} {settled settled-next steps steps-next place number : ℕ} {b : Bool}
+      → SettledRun r caps cells up down t out next settled settled-next steps steps-next place number → number ≡ 0 → settled-next ≡ flagOf b
+      → SettlingMade (record { road = r; caps = caps; cells = cells; up = up; down = down; horizon = t; next = next; settled = b; steps = steps-next })
 
 pub record AcceptedReading : Type 0 where
   pub road : Road

@@ -2,22 +2,23 @@
 -- Besides, "the years I cannot watch" are `for-ever`, of calls in a chain: `forecast`'s specs/ForEver.antt.
 use mathlib.Core.Path.{_≡_}
 use mathlib.Core.Bool.{true, false}
-use mathlib.Core.Logic.{_↔_}
+use mathlib.Core.Logic.{_↔_, _⊎_}
 use mathlib.Core.List.{List, [], _∷_, map}
 use Prim.Native.Nat.{ℕ, _+_, _-_, _*_, _^_, _≤_, _<_}
+use lib.Dec.{T}
 use lib.IntN.{ℤ, pos, _-ℤ_, natAbs}
 use lib.Ieee.{fin, binary64, ofInt}
 use lib.ListN.{length, getD}
 use Rattle.road.specs.Judgement.{Accepted}
-use Rattle.road.specs.Table.{row, judge, rowAt, Applies}
+use Rattle.road.specs.Table.{row, judge, rising, rowAt, Applies}
 use Rattle.road.specs.declared.Road.{Road}
 use Rattle.floats.specs.Worth.{Worth, FiniteUpTo}
 use Rattle.flux.specs.Face.{numerator, letterW, letterL, letterD}
 use Rattle.scheme.specs.Advance.{padded}
 use Rattle.scheme.specs.Sums.{sum, distance, times}
 use Rattle.scheme.specs.Word.{wordOf}
-use Rattle.scheme.specs.Rounded.{roundStep, roundRun, entered, left}
-use Rattle.scheme.specs.ByFaces.{RunByFaces, ExactStepByFaces, ExactRunByFaces}
+use Rattle.scheme.specs.Rounded.{openCaps, roundStep, roundRun, entered, left}
+use Rattle.scheme.specs.ByFaces.{numeratorOver, RunByFaces, ExactStepByFaces, ExactRunByFaces}
 use Rattle.scheme.specs.Exact.{exactStep, exactRun}
 use Rattle.scheme.specs.Settling.{still, after}
 use Rattle.scheme.specs.declared.many_steps.Totals.{Totals}
@@ -38,7 +39,7 @@ use Rattle.counting.specs.LegalWordsCounted.{legalWords, StandsAt}
 use Rattle.candidate.specs.Candidate.{rowFor, candidateNumerator}
 use Rattle.site.specs.Station.{estimateOf}
 use Rattle.site.specs.Nearest.{alters, ranking, numbersOf, changesOf, Smallest}
-use Rattle.cases.specs.Calls.{Outcome, Called, AcceptedForecast, ForecastMade, ForecastChain, AcceptedSettling, SettlingMade, AcceptedReading, ReadingMade, AcceptedFit, FitMade, AcceptedRows, RowsMade, AcceptedCandidate, CandidateMade, AcceptedCount, CountMade, AcceptedStation, StationMade, AcceptedRanking, RankingMade}
+use Rattle.cases.specs.Calls.{forecastChecks, settleChecks, Outcome, Called, AcceptedForecast, ForecastMade, ForecastChain, AcceptedSettling, SettlingMade, AcceptedReading, ReadingMade, AcceptedFit, FitMade, AcceptedRows, RowsMade, AcceptedCandidate, CandidateMade, AcceptedCount, CountMade, AcceptedStation, StationMade, AcceptedRanking, RankingMade}
 
 -- of whatever a public call did with its input
 abbrev EachCall : (Outcome → Type 0) → Type 1
@@ -54,9 +55,11 @@ pub record Demand1 : Type 1 where
       → (i : ℕ) × (i < length (o .rows)) × (rowAt (o .rows) i ≡ row true (o .refusal .number) (o .refusal .place))
       × ((j : ℕ) → j < i → rowAt (o .rows) j .condition ≡ false))
   pub returned : EachCall (λ o. (number place : ℕ) → Applies (o .rows) number place → 0 < o .refusal .number)
-  -- the rows stand in the order of document 01's numbers, so that "the lowest number that applies is returned"
+  -- the rows stand in the call's order of checks. Where their numbers rise "the lowest number that applies is returned": so of every call but forecast and settling run,
+  -- in which 20 comes before 9
   pub checks : EachCall (λ o. map (λ r. r .number) (o .rows) ≡ o .checks)
-  pub lowest : EachCall (λ o. (number place : ℕ) → Applies (o .rows) number place → o .refusal .number ≤ number)
+  pub lowest : EachCall (λ o. T (rising 0 (o .rows)) → (number place : ℕ) → Applies (o .rows) number place → o .refusal .number ≤ number)
+  pub rise : EachCall (λ o. (o .checks ≡ forecastChecks) ⊎ ((o .checks ≡ settleChecks) ⊎ T (rising 0 (o .rows))))
   pub place : EachCall (λ o. o .Placed (o .refusal))
   -- number and place are what the table comes to, down its rows
   pub table : EachCall (λ o. o .refusal ≡ judge (o .rows))
@@ -124,6 +127,14 @@ ownWord x = wordOf (x .road) (x .up) (x .down) (x .cells)
 abbrev ownWordOf : AcceptedRows → List ℕ
 ownWordOf x = wordOf (x .road) (x .up) (x .down) (x .cells)
 
+-- of each list of caps and each cell that it leaves alone: the numerators over the faces k and k+1 of the cell at place k are at most their caps × D
+abbrev EachUncapped : AcceptedRows → (List ℕ → ℕ → Type 0) → Type 0
+EachUncapped x Says =
+    (caps : List ℕ) (k : ℕ) → k < length (x .cells)
+    → numeratorOver (x .road) (x .up) (x .down) (x .cells) k ≤ getD caps k 0 * x .road .divisor
+    → numeratorOver (x .road) (x .up) (x .down) (x .cells) (k + 1) ≤ getD caps (k + 1) 0 * x .road .divisor
+    → Says caps k
+
 -- a word is that of some accepted state
 abbrev Occurs : Road → List ℕ → Type 0
 Occurs r word =
@@ -153,23 +164,28 @@ pub record Demand2 : Type 0 where
   pub compared-W : EachCompared (λ r a b s. (s ≡ letterW) ↔ ((r .critical < b) × (r .wave * (r .jam - b) < r .free * a)))
   pub compared-L : EachCompared (λ r a b s. (s ≡ letterL) ↔ ((r .critical < a) × (b ≤ r .critical)))
   pub compared-D : EachCompared (λ r a b s. (s ≡ letterD) ↔ ((a ≤ r .critical) × (r .free * a ≤ r .wave * (r .jam - b))))
-  -- "a step moves the whole units of each face's flow": every step of a forecast, and every step of a settling run
-  pub steps : EachForecast (λ x. RunByFaces (x .road) (x .ups) (x .downs) (x .cells) (x .next) (x .entered) (x .left))
-  pub settling-steps : EachSettling (λ x. PairByFaces (x .road) (x .up) (x .down) (x .steps) (x .cells) (x .next))
-  -- "and a state's own mode rows give its exact unrounded step"; document 01 adds how near the rounded density is
-  pub own-rows : EachPrediction (λ x. x .word ≡ ownWordOf x → x .rows ≡ map pos (exactStep (x .road) 1 (x .up) (x .down) (x .cells)))
-  pub own-rows-exact : EachPrediction (λ x. x .word ≡ ownWordOf x
-      → ExactStepByFaces (x .road) 1 (x .up) (x .down) (x .cells) (exactStep (x .road) 1 (x .up) (x .down) (x .cells)))
-  pub own-rows-near : EachPrediction (λ x. x .word ≡ ownWordOf x → (k : ℕ)
-      → natAbs (pos (x .road .divisor * getD (roundStep (x .road) (x .up) (x .down) (x .cells)) k 0) -ℤ getD (x .rows) k (pos 0)) < x .road .divisor)
+  -- "a step moves the whole units of each face's flow", "the smaller of its rounded flow and its cap" (document 02, E7): every step of a forecast, and every step of a settling run
+  pub steps : EachForecast (λ x. RunByFaces (x .road) (x .caps) (x .ups) (x .downs) (x .cells) (x .next) (x .entered) (x .left))
+  pub settling-steps : EachSettling (λ x. PairByFaces (x .road) (x .caps) (x .up) (x .down) (x .steps) (x .cells) (x .next))
+  -- "and a state's own mode rows give its exact unrounded step", as document 02, E7, amends it: under any caps, at each cell where "neither face's numerator exceeds its
+  -- cap × D"; document 01 adds how near the rounded density is
+  pub own-rows : EachPrediction (λ x. x .word ≡ ownWordOf x → EachUncapped x (λ caps k. getD (x .rows) k (pos 0) ≡ pos (getD (exactStep (x .road) caps 1 (x .up) (x .down) (x .cells)) k 0)))
+  pub own-rows-exact : EachPrediction (λ x. x .word ≡ ownWordOf x → (caps : List ℕ)
+      → ExactStepByFaces (x .road) caps 1 (x .up) (x .down) (x .cells) (exactStep (x .road) caps 1 (x .up) (x .down) (x .cells)))
+  pub own-rows-near : EachPrediction (λ x. x .word ≡ ownWordOf x → EachUncapped x (λ caps k.
+      natAbs (pos (x .road .divisor * getD (roundStep (x .road) caps (x .up) (x .down) (x .cells)) k 0) -ℤ getD (x .rows) k (pos 0)) < x .road .divisor))
+  -- and with open caps of every cell, as the commission has it
+  pub own-rows-open : EachPrediction (λ x. x .word ≡ ownWordOf x → x .rows ≡ map pos (exactStep (x .road) (openCaps (length (x .cells))) 1 (x .up) (x .down) (x .cells)))
+  pub own-rows-open-near : EachPrediction (λ x. x .word ≡ ownWordOf x → (k : ℕ)
+      → natAbs (pos (x .road .divisor * getD (roundStep (x .road) (openCaps (length (x .cells))) (x .up) (x .down) (x .cells)) k 0) -ℤ getD (x .rows) k (pos 0)) < x .road .divisor)
   -- "Entered, left .. follow from these as document 01 defines"
-  pub entered : EachForecast (λ x. x .entered ≡ entered (x .road) (x .ups) (x .downs) (x .cells))
-  pub left : EachForecast (λ x. x .left ≡ left (x .road) (x .ups) (x .downs) (x .cells))
+  pub entered : EachForecast (λ x. x .entered ≡ entered (x .road) (x .caps) (x .ups) (x .downs) (x .cells))
+  pub left : EachForecast (λ x. x .left ≡ left (x .road) (x .caps) (x .ups) (x .downs) (x .cells))
   -- ".. settling reports ..": the least k below T such that step k+1 is still and the state after k, otherwise T and the state after T
-  pub still-next : EachSettling (λ x. x .settled ≡ true → (x .steps < x .horizon) × (still (x .road) (x .up) (x .down) (x .next) ≡ true))
+  pub still-next : EachSettling (λ x. x .settled ≡ true → (x .steps < x .horizon) × (still (x .road) (x .caps) (x .up) (x .down) (x .next) ≡ true))
   pub none-still : EachSettling (λ x. x .settled ≡ false → x .steps ≡ x .horizon)
-  pub none-before : EachSettling (λ x. (j : ℕ) → j < x .steps → still (x .road) (x .up) (x .down) (after (x .road) (x .up) (x .down) j (x .cells)) ≡ false)
-  pub settled-state : EachSettling (λ x. x .next ≡ after (x .road) (x .up) (x .down) (x .steps) (x .cells))
+  pub none-before : EachSettling (λ x. (j : ℕ) → j < x .steps → still (x .road) (x .caps) (x .up) (x .down) (after (x .road) (x .caps) (x .up) (x .down) j (x .cells)) ≡ false)
+  pub settled-state : EachSettling (λ x. x .next ≡ after (x .road) (x .caps) (x .up) (x .down) (x .steps) (x .cells))
   pub settled-within : EachSettling (λ x. (length (x .next) ≡ length (x .cells)) × ((i : ℕ) → getD (x .next) i 0 ≤ x .road .jam))
   -- ".. fits ..": all faces of the word hold exactly when it is the state's; otherwise the lowest face that does not
   pub fits : EachFit (λ x. (x .holds ≡ true) ↔ (x .word ≡ ownWord x))
@@ -232,18 +248,20 @@ pub record Demand2 : Type 0 where
 pub record Demand3 : Type 0 where
   -- "every density it hands back is the one after document 01's T steps": T pairs of ends, and n densities
   pub pairs : EachForecast (λ x. (length (x .ups) ≡ x .horizon) × (length (x .downs) ≡ x .horizon))
-  pub densities : EachForecast (λ x. (x .next ≡ roundRun (x .road) (x .ups) (x .downs) (x .cells)) × (length (x .next) ≡ length (x .cells)))
+  -- under n+1 caps (document 02, E7)
+  pub caps : EachForecast (λ x. length (x .caps) ≡ length (x .cells) + 1)
+  pub densities : EachForecast (λ x. (x .next ≡ roundRun (x .road) (x .caps) (x .ups) (x .downs) (x .cells)) × (length (x .next) ≡ length (x .cells)))
   -- "and lies from 0 to jam"
   pub within : EachForecast (λ x. (i : ℕ) → getD (x .next) i 0 ≤ x .road .jam)
   -- "units at the start plus entered minus left equal the units present at the end"
   pub balanced : EachForecast (λ x. sum (x .cells) + x .entered ≡ sum (x .next) + x .left)
-  -- "and D times the summed distance from the exact unrounded scheme, run from the same start and ends, is at most n × T × (D − 1)": both sides times D to
+  -- "and D times the summed distance from the exact unrounded scheme, run from the same start and ends" and under "the same caps", "is at most n × T × (D − 1)": both sides times D to
   -- the power T, which makes the n exact densities whole
   pub near : EachForecast (λ x.
-      x .road .divisor * distance (times (x .road .divisor ^ x .horizon) (x .next)) (exactRun (x .road) 1 (x .ups) (x .downs) (x .cells))
+      x .road .divisor * distance (times (x .road .divisor ^ x .horizon) (x .next)) (exactRun (x .road) (x .caps) 1 (x .ups) (x .downs) (x .cells))
       ≤ length (x .cells) * x .horizon * (x .road .divisor - 1) * x .road .divisor ^ x .horizon)
-  pub exact-cells : EachForecast (λ x. length (exactRun (x .road) 1 (x .ups) (x .downs) (x .cells)) ≡ length (x .cells))
-  pub exact-steps : EachForecast (λ x. ExactRunByFaces (x .road) 1 (x .ups) (x .downs) (x .cells) (exactRun (x .road) 1 (x .ups) (x .downs) (x .cells)))
+  pub exact-cells : EachForecast (λ x. length (exactRun (x .road) (x .caps) 1 (x .ups) (x .downs) (x .cells)) ≡ length (x .cells))
+  pub exact-steps : EachForecast (λ x. ExactRunByFaces (x .road) (x .caps) 1 (x .ups) (x .downs) (x .cells) (exactRun (x .road) (x .caps) 1 (x .ups) (x .downs) (x .cells)))
 
 -- "Totals since commissioning" (document 02, E4). That a refused call alters neither cells nor totals is `kept` of demand 1, of the output and, for C, of both totals:
 -- cells are only read

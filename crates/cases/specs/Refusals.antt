@@ -1,4 +1,4 @@
--- Every number of the refusal table (document 01, "Where each refusal is made"; document 02, E1, E3 and E4), pinned by an input: one record, one field a number of a call.
+-- Every number of the refusal table (document 01, "Where each refusal is made"; document 02, E1, E3, E4 and E7), pinned by an input: one record, one field a number of a call.
 -- But where a comment says otherwise the named row alone applies to its input, so that no two numbers can be exchanged. Where a row has a place and room for it, a later
 -- offence stands behind the first one.
 use mathlib.Core.Path.{_≡_}
@@ -12,6 +12,7 @@ use Rattle.road.specs.Table.{refused}
 use Rattle.road.specs.Judgement.{roadRefusal}
 use Rattle.road.specs.declared.Road.{Road}
 use Rattle.flux.specs.Face.{letterW, letterL, letterD}
+use Rattle.scheme.specs.Rounded.{openCaps}
 use Rattle.forecast.specs.Forecast.{forecastAnswer}
 use Rattle.forecast.specs.Settle.{settleAnswer}
 use Rattle.forecast.specs.declared.forecasting.ForecastAnswer.the-variants as Forecast
@@ -79,34 +80,46 @@ pub record Refusals : Type 0 where
   pub road-2 : roadRefusal (road 5 6 1 1000 200) ≡ refused 2 0
   pub road-3 : roadRefusal (road 5 4 1 1000 1000) ≡ refused 3 0
   pub road-4 : roadRefusal (road 5 4 1 1000 201) ≡ refused 4 0
-  -- forecast: cells, upstream and downstream ends, T, the totals so far, length of the output
-  pub forecast-1 : forecastAnswer road1 three ups downs 3 none 3 ≡ Forecast.Refused (refused 1 0)
-  pub forecast-2 : forecastAnswer road2 three ups downs 3 none 3 ≡ Forecast.Refused (refused 2 0)
-  pub forecast-3 : forecastAnswer road3 three ups downs 3 none 3 ≡ Forecast.Refused (refused 3 0)
-  pub forecast-4 : forecastAnswer road4 three ups downs 3 none 3 ≡ Forecast.Refused (refused 4 0)
-  pub forecast-5-none : forecastAnswer roadA [] ups downs 3 none 0 ≡ Forecast.Refused (refused 5 0)
-  pub forecast-5-many : forecastAnswer roadA (replicate 257 0) ups downs 3 none 257 ≡ Forecast.Refused (refused 5 0)
-  pub forecast-6 : forecastAnswer roadA three (replicate 4097 0) (replicate 4097 0) 4097 none 3 ≡ Forecast.Refused (refused 6 0)
-  pub forecast-7-up : forecastAnswer roadA three two downs 3 none 3 ≡ Forecast.Refused (refused 7 0)
-  pub forecast-7-down : forecastAnswer roadA three ups two 3 none 3 ≡ Forecast.Refused (refused 7 0)
-  pub forecast-8 : forecastAnswer roadA three ups downs 3 none 2 ≡ Forecast.Refused (refused 8 0)
-  pub forecast-9 : forecastAnswer roadA above ups downs 3 none 3 ≡ Forecast.Refused (refused 9 2)
-  pub forecast-10 : forecastAnswer roadA three above downs 3 none 3 ≡ Forecast.Refused (refused 10 1)
-  pub forecast-11 : forecastAnswer roadA three ups above 3 none 3 ≡ Forecast.Refused (refused 11 1)
+  -- forecast: caps, cells, upstream and downstream ends, T, the totals so far, length of the output
+  pub forecast-1 : forecastAnswer road1 (openCaps 3) three ups downs 3 none 3 ≡ Forecast.Refused (refused 1 0)
+  pub forecast-2 : forecastAnswer road2 (openCaps 3) three ups downs 3 none 3 ≡ Forecast.Refused (refused 2 0)
+  pub forecast-3 : forecastAnswer road3 (openCaps 3) three ups downs 3 none 3 ≡ Forecast.Refused (refused 3 0)
+  pub forecast-4 : forecastAnswer road4 (openCaps 3) three ups downs 3 none 3 ≡ Forecast.Refused (refused 4 0)
+  pub forecast-5-none : forecastAnswer roadA (openCaps 0) [] ups downs 3 none 0 ≡ Forecast.Refused (refused 5 0)
+  pub forecast-5-many : forecastAnswer roadA (openCaps 257) (replicate 257 0) ups downs 3 none 257 ≡ Forecast.Refused (refused 5 0)
+  pub forecast-6 : forecastAnswer roadA (openCaps 3) three (replicate 4097 0) (replicate 4097 0) 4097 none 3 ≡ Forecast.Refused (refused 6 0)
+  pub forecast-7-up : forecastAnswer roadA (openCaps 3) three two downs 3 none 3 ≡ Forecast.Refused (refused 7 0)
+  pub forecast-7-down : forecastAnswer roadA (openCaps 3) three ups two 3 none 3 ≡ Forecast.Refused (refused 7 0)
+  pub forecast-8 : forecastAnswer roadA (openCaps 3) three ups downs 3 none 2 ≡ Forecast.Refused (refused 8 0)
+  -- 20: no caps, n of them, n + 2; and its place in the call's order of checks: before 9, which applies as well; and after 8, where both do
+  pub forecast-20-none : forecastAnswer roadA [] three ups downs 3 none 3 ≡ Forecast.Refused (refused 20 0)
+  pub forecast-20-short : forecastAnswer roadA (openCaps 2) three ups downs 3 none 3 ≡ Forecast.Refused (refused 20 0)
+  pub forecast-20-long : forecastAnswer roadA (openCaps 4) three ups downs 3 none 3 ≡ Forecast.Refused (refused 20 0)
+  pub forecast-20-before-9 : forecastAnswer roadA (openCaps 2) above ups downs 3 none 3 ≡ Forecast.Refused (refused 20 0)
+  pub forecast-8-before-20 : forecastAnswer roadA (openCaps 2) above ups downs 3 none 2 ≡ Forecast.Refused (refused 8 0)
+  pub forecast-9 : forecastAnswer roadA (openCaps 3) above ups downs 3 none 3 ≡ Forecast.Refused (refused 9 2)
+  pub forecast-10 : forecastAnswer roadA (openCaps 3) three above downs 3 none 3 ≡ Forecast.Refused (refused 10 1)
+  pub forecast-11 : forecastAnswer roadA (openCaps 3) three ups above 3 none 3 ≡ Forecast.Refused (refused 11 1)
   -- either total alone, by one unit: the three steps let 240 enter and 480 leave
-  pub forecast-19-entered : forecastAnswer roadA three ups downs 3 (totals 18446744073709551376 0) 3 ≡ Forecast.Refused (refused 19 0)
-  pub forecast-19-left : forecastAnswer roadA three ups downs 3 (totals 0 18446744073709551136) 3 ≡ Forecast.Refused (refused 19 0)
-  -- settling run: cells, the end pair, T, length of the output
-  pub settle-1 : settleAnswer road1 three 100 0 9 3 ≡ Settle.Refused (refused 1 0)
-  pub settle-2 : settleAnswer road2 three 100 0 9 3 ≡ Settle.Refused (refused 2 0)
-  pub settle-3 : settleAnswer road3 three 100 0 9 3 ≡ Settle.Refused (refused 3 0)
-  pub settle-4 : settleAnswer road4 three 100 0 9 3 ≡ Settle.Refused (refused 4 0)
-  pub settle-5 : settleAnswer roadA [] 100 0 9 0 ≡ Settle.Refused (refused 5 0)
-  pub settle-6 : settleAnswer roadA three 100 0 4097 3 ≡ Settle.Refused (refused 6 0)
-  pub settle-8 : settleAnswer roadA three 100 0 9 2 ≡ Settle.Refused (refused 8 0)
-  pub settle-9 : settleAnswer roadA above 100 0 9 3 ≡ Settle.Refused (refused 9 2)
-  pub settle-10 : settleAnswer roadA three 1001 0 9 3 ≡ Settle.Refused (refused 10 0)
-  pub settle-11 : settleAnswer roadA three 100 1001 9 3 ≡ Settle.Refused (refused 11 0)
+  pub forecast-19-entered : forecastAnswer roadA (openCaps 3) three ups downs 3 (totals 18446744073709551376 0) 3 ≡ Forecast.Refused (refused 19 0)
+  pub forecast-19-left : forecastAnswer roadA (openCaps 3) three ups downs 3 (totals 0 18446744073709551136) 3 ≡ Forecast.Refused (refused 19 0)
+  -- settling run: caps, cells, the end pair, T, length of the output
+  pub settle-1 : settleAnswer road1 (openCaps 3) three 100 0 9 3 ≡ Settle.Refused (refused 1 0)
+  pub settle-2 : settleAnswer road2 (openCaps 3) three 100 0 9 3 ≡ Settle.Refused (refused 2 0)
+  pub settle-3 : settleAnswer road3 (openCaps 3) three 100 0 9 3 ≡ Settle.Refused (refused 3 0)
+  pub settle-4 : settleAnswer road4 (openCaps 3) three 100 0 9 3 ≡ Settle.Refused (refused 4 0)
+  pub settle-5 : settleAnswer roadA (openCaps 0) [] 100 0 9 0 ≡ Settle.Refused (refused 5 0)
+  pub settle-6 : settleAnswer roadA (openCaps 3) three 100 0 4097 3 ≡ Settle.Refused (refused 6 0)
+  pub settle-8 : settleAnswer roadA (openCaps 3) three 100 0 9 2 ≡ Settle.Refused (refused 8 0)
+  -- 20 likewise
+  pub settle-20-none : settleAnswer roadA [] three 100 0 9 3 ≡ Settle.Refused (refused 20 0)
+  pub settle-20-short : settleAnswer roadA (openCaps 2) three 100 0 9 3 ≡ Settle.Refused (refused 20 0)
+  pub settle-20-long : settleAnswer roadA (openCaps 4) three 100 0 9 3 ≡ Settle.Refused (refused 20 0)
+  pub settle-20-before-9 : settleAnswer roadA (openCaps 2) above 100 0 9 3 ≡ Settle.Refused (refused 20 0)
+  pub settle-8-before-20 : settleAnswer roadA (openCaps 2) above 100 0 9 2 ≡ Settle.Refused (refused 8 0)
+  pub settle-9 : settleAnswer roadA (openCaps 3) above 100 0 9 3 ≡ Settle.Refused (refused 9 2)
+  pub settle-10 : settleAnswer roadA (openCaps 3) three 1001 0 9 3 ≡ Settle.Refused (refused 10 0)
+  pub settle-11 : settleAnswer roadA (openCaps 3) three 100 1001 9 3 ≡ Settle.Refused (refused 11 0)
   -- reading: cells, the end pair, lengths of the letters and of the modes
   pub read-1 : readAnswer road1 three 100 0 4 3 .answer ≡ Read.Refused (refused 1 0)
   pub read-2 : readAnswer road2 three 100 0 4 3 .answer ≡ Read.Refused (refused 2 0)

@@ -1,6 +1,7 @@
--- The values of document 02, request by request: one record, one field a value. E1, E3, E4 and E5 print none: their values are worked from their words. Those of E2 on
+-- The values of document 02, request by request: one record, one field a value. E1, E3, E4, E5 and E7 print none: their values are worked from their words. Where no caps are named they are open. Those of E2 on
 -- road A are among the starred cases, and E6 prints those of two cells.
 use mathlib.Core.Path.{_≡_}
+use mathlib.Core.Bool.{true}
 use mathlib.Core.List.{List, [], _∷_}
 use Prim.Native.Nat.{ℕ, _+_}
 use lib.ListN.{length}
@@ -9,11 +10,15 @@ use lib.Ieee.{Float, binary64, ofBits}
 use Rattle.road.specs.Table.{refused}
 use Rattle.road.specs.declared.Road.{Road}
 use Rattle.flux.specs.Face.{numerator, units}
-use Rattle.scheme.specs.Rounded.{roundStep}
+use Rattle.scheme.specs.Rounded.{openCaps, roundStep}
+use Rattle.scheme.specs.Exact.{exactStep}
+use Rattle.scheme.specs.Word.{wordOf}
 use Rattle.scheme.specs.declared.many_steps.Totals.{Totals}
 use Rattle.forecast.specs.declared.forecasting.ForecastAnswer.{ForecastAnswer}
 use Rattle.forecast.specs.declared.forecasting.ForecastAnswer.the-variants as Forecast
 use Rattle.forecast.specs.Forecast.{forecastAnswer, forecastCells}
+use Rattle.forecast.specs.declared.settling.SettleAnswer.the-variants as Settle
+use Rattle.forecast.specs.Settle.{settleAnswer}
 use Rattle.forecast.specs.Chain.{Call, Site, afterAll}
 use Rattle.modes.specs.Reading.{readAnswer}
 use Rattle.modes.specs.declared.reading.ReadAnswer.the-variants as Read
@@ -23,6 +28,7 @@ use Rattle.site.specs.Station.{whole, stationAnswer}
 use Rattle.site.specs.declared.stations.StationReading.{StationReading}
 use Rattle.site.specs.declared.stations.StationReading.the-variants.{Density, FlowAndSpeed, Speed}
 use Rattle.site.specs.declared.stations.StationAnswer.the-variants.{Done, Refused}
+use Rattle.rows.specs.Rows.{rowNumerators}
 use Rattle.cases.specs.Starred.{roadA, totals, none, three}
 
 -- a float by its bits: the ones nearest to 0.2, 0.6 and 0.8
@@ -52,14 +58,14 @@ entry cell change = record { cell = cell; change = change }
 
 -- E4: one step of road A from the starred cell 101 between empty ends, with totals so far; what comes back where nothing is refused
 abbrev pub oneStepOn : Totals → ForecastAnswer
-oneStepOn so-far = forecastAnswer roadA (101 ∷ []) (0 ∷ []) (0 ∷ []) 1 so-far 1
+oneStepOn so-far = forecastAnswer roadA (openCaps 1) (101 ∷ []) (0 ∷ []) (0 ∷ []) 1 so-far 1
 
 abbrev pub made : Totals → Totals → ForecastAnswer
 made own total = Forecast.Done (record { own = own; totals = total })
 
 -- one step of a chain on road A, between two ends
 abbrev pub step : ℕ → ℕ → Call
-step up down = record { road = roadA; horizon = 1; ups = up ∷ []; downs = down ∷ []; out = three }
+step up down = record { road = roadA; caps = openCaps 3; horizon = 1; ups = up ∷ []; downs = down ∷ []; out = three }
 
 abbrev pub site : List ℕ → Totals → Site
 site cells so-far = record { cells = cells; totals = so-far }
@@ -74,6 +80,19 @@ reading up cells down = readAnswer roadA cells up down (length cells + 1) (lengt
 
 abbrev pub counted : List ℕ → ℕ → StateReading
 counted modes queued = record { answer = Read.Done; counts = record { modes = modes; queued = queued } }
+
+-- E7: one step of cells of road A between two ends under caps, from totals of 0: its cells; its own entered and left; the exact step; and the rows of the state's own word
+abbrev pub capped : List ℕ → ℕ → List ℕ → ℕ → List ℕ
+capped caps up cells down = forecastCells roadA caps cells (up ∷ []) (down ∷ []) 1 none cells
+
+abbrev pub moves : List ℕ → ℕ → List ℕ → ℕ → ForecastAnswer
+moves caps up cells down = forecastAnswer roadA caps cells (up ∷ []) (down ∷ []) 1 none (length cells)
+
+abbrev pub exactly : List ℕ → ℕ → List ℕ → ℕ → List ℕ
+exactly caps up cells down = exactStep roadA caps 1 up down cells
+
+abbrev pub ownRows : ℕ → List ℕ → ℕ → List ℤ
+ownRows up cells down = rowNumerators roadA up down (wordOf roadA up down cells) cells
 
 pub record Requested : Type 0 where
   -- E1, station readings
@@ -90,12 +109,12 @@ pub record Requested : Type 0 where
   pub nearest-tie : ranking roadA 100 204 (400 ∷ []) ≡ entry 1 (negsuc 200) ∷ []
   -- E4, totals since commissioning: increased beside the own counts; the largest itself; one unit past it; and a chain of five whose third is refused
   pub totals-increased : oneStepOn (totals 7 5) ≡ made (totals 0 81) (totals 7 86)
-  pub totals-cell : forecastCells roadA (101 ∷ []) (0 ∷ []) (0 ∷ []) 1 (totals 7 5) (0 ∷ []) ≡ 20 ∷ []
+  pub totals-cell : forecastCells roadA (openCaps 1) (101 ∷ []) (0 ∷ []) (0 ∷ []) 1 (totals 7 5) (0 ∷ []) ≡ 20 ∷ []
   pub totals-largest : oneStepOn (totals 7 18446744073709551534) ≡ made (totals 0 81) (totals 7 18446744073709551615)
   pub totals-past : oneStepOn (totals 7 18446744073709551535) ≡ Forecast.Refused (refused 19 0)
   pub totals-chain : afterAll (site three none) (step 100 0 ∷ step 100 0 ∷ step 1001 0 ∷ step 120 0 ∷ step 150 900 ∷ []) ≡ site (145 ∷ 336 ∷ 545 ∷ []) (totals 376 500)
   -- E5, what the one list then holds: all faces are worked from the old densities. With an inflow from the new left cell all would be 0
-  pub alternate : roundStep unitRoad 0 0 (1 ∷ 0 ∷ 1 ∷ 0 ∷ []) ≡ 0 ∷ 1 ∷ 0 ∷ 1 ∷ []
+  pub alternate : roundStep unitRoad (openCaps 4) 0 0 (1 ∷ 0 ∷ 1 ∷ 0 ∷ []) ≡ 0 ∷ 1 ∷ 0 ∷ 1 ∷ []
   -- E6, queued means above critical: the starred three cells; of them cell 1, in mode 6, and cell 2, in mode 3; a cell at C and one just above it; and mode 5, above C and below
   pub queued-three : reading 100 three 0 ≡ counted (0 ∷ 1 ∷ 1 ∷ 0 ∷ 0 ∷ 1 ∷ 0 ∷ []) 2
   pub queued-cell-1 : reading 100 (300 ∷ []) 150 ≡ counted (0 ∷ 0 ∷ 0 ∷ 0 ∷ 0 ∷ 1 ∷ 0 ∷ []) 1
@@ -104,3 +123,23 @@ pub record Requested : Type 0 where
   pub queued-just-above : reading 100 (201 ∷ []) 150 ≡ counted (0 ∷ 0 ∷ 0 ∷ 0 ∷ 0 ∷ 1 ∷ 0 ∷ []) 1
   pub queued-5-above : reading 100 (300 ∷ []) 700 ≡ counted (0 ∷ 0 ∷ 0 ∷ 0 ∷ 1 ∷ 0 ∷ 0 ∷ []) 1
   pub queued-5-below : reading 100 (150 ∷ []) 900 ≡ counted (0 ∷ 0 ∷ 0 ∷ 0 ∷ 1 ∷ 0 ∷ 0 ∷ []) 0
+  -- E7, roadworks: the starred cell 101 leaves 30 units, 80 or all 81 under the cap of face 1. Its numerator over that face is 404: it exceeds 80 × 5, and the row, 101, is not the
+  -- exact step; it does not exceed 81 × 5, and it is. The starred three cells under caps that their numerators, 400, 800, 300 and 800, just reach: the rows are the exact step
+  pub caps-30 : capped (9 ∷ 30 ∷ []) 0 (101 ∷ []) 0 ≡ 71 ∷ []
+  pub caps-30-left : moves (9 ∷ 30 ∷ []) 0 (101 ∷ []) 0 ≡ made (totals 0 30) (totals 0 30)
+  pub caps-30-exact : exactly (9 ∷ 30 ∷ []) 0 (101 ∷ []) 0 ≡ 355 ∷ []
+  pub caps-80 : capped (9 ∷ 80 ∷ []) 0 (101 ∷ []) 0 ≡ 21 ∷ []
+  pub caps-80-left : moves (9 ∷ 80 ∷ []) 0 (101 ∷ []) 0 ≡ made (totals 0 80) (totals 0 80)
+  pub caps-80-exact : exactly (9 ∷ 80 ∷ []) 0 (101 ∷ []) 0 ≡ 105 ∷ []
+  pub caps-81 : capped (9 ∷ 81 ∷ []) 0 (101 ∷ []) 0 ≡ 20 ∷ []
+  pub caps-81-left : moves (9 ∷ 81 ∷ []) 0 (101 ∷ []) 0 ≡ made (totals 0 81) (totals 0 81)
+  pub caps-81-exact : exactly (9 ∷ 81 ∷ []) 0 (101 ∷ []) 0 ≡ 101 ∷ []
+  pub caps-row : ownRows 0 (101 ∷ []) 0 ≡ pos 101 ∷ []
+  pub caps-reached : capped (80 ∷ 160 ∷ 60 ∷ 160 ∷ []) 100 three 0 ≡ 220 ∷ 250 ∷ 600 ∷ []
+  pub caps-reached-exact : exactly (80 ∷ 160 ∷ 60 ∷ 160 ∷ []) 100 three 0 ≡ 1100 ∷ 1250 ∷ 3000 ∷ []
+  pub caps-reached-rows : ownRows 100 three 0 ≡ pos 1100 ∷ pos 1250 ∷ pos 3000 ∷ []
+  -- one unit less at face 0, which no longer moves all of its flow: the row of cell 1 is not the exact step, those of the others are
+  pub caps-short : capped (79 ∷ 160 ∷ 60 ∷ 160 ∷ []) 100 three 0 ≡ 219 ∷ 250 ∷ 600 ∷ []
+  pub caps-short-exact : exactly (79 ∷ 160 ∷ 60 ∷ 160 ∷ []) 100 three 0 ≡ 1095 ∷ 1250 ∷ 3000 ∷ []
+  -- a settling run obeys the caps as well: between a full and an empty end the two cells let 50 in and 50 out, and stand still at once; with open caps their sum falls
+  pub caps-settled : settleAnswer roadA (50 ∷ 50 ∷ 50 ∷ []) (300 ∷ 300 ∷ []) 1000 0 9 2 ≡ Settle.Done (record { settled = true; steps = 0 })

@@ -1,4 +1,4 @@
--- The starred cases of document 01, "Road A at its edges", rounded as document 02, E2, says: one record, one field a starred value.
+-- The starred cases of document 01, "Road A at its edges", rounded as document 02, E2, says, with open caps (E7): one record, one field a starred value.
 use mathlib.Core.Path.{_≡_}
 use mathlib.Core.Bool.{true}
 use mathlib.Core.List.{List, [], _∷_}
@@ -7,6 +7,7 @@ use lib.IntN.{pos, negsuc}
 use lib.ListN.{length}
 use Rattle.road.specs.declared.Road.{Road}
 use Rattle.flux.specs.Face.{numerator, units, letterW, letterL, letterD, letter}
+use Rattle.scheme.specs.Rounded.{openCaps}
 use Rattle.scheme.specs.Exact.{exactStep}
 use Rattle.scheme.specs.declared.many_steps.Totals.{Totals}
 use Rattle.forecast.specs.Forecast as Forecast
@@ -34,10 +35,10 @@ none = totals 0 0
 
 -- one step of road A from some cells between two ends, with totals of 0: what the forecast reports and hands back
 abbrev pub oneStep : List ℕ → ℕ → ℕ → Forecast.Meaning
-oneStep cells up down = Forecast.meaning (Forecast.forecastAnswer roadA cells (up ∷ []) (down ∷ []) 1 none (length cells))
+oneStep cells up down = Forecast.meaning (Forecast.forecastAnswer roadA (openCaps (length cells)) cells (up ∷ []) (down ∷ []) 1 none (length cells))
 
 abbrev pub oneStepCells : List ℕ → ℕ → ℕ → List ℕ
-oneStepCells cells up down = Forecast.forecastCells roadA cells (up ∷ []) (down ∷ []) 1 none cells
+oneStepCells cells up down = Forecast.forecastCells roadA (openCaps (length cells)) cells (up ∷ []) (down ∷ []) 1 none cells
 
 -- the starred three cells
 abbrev pub three : List ℕ
@@ -52,7 +53,7 @@ threeModes = readModes roadA three 100 0 (0 ∷ 0 ∷ 0 ∷ 0 ∷ []) (0 ∷ 0 �
 
 -- the starred settling run: one cell 2, ends 0, T 9
 abbrev pub settling : Settle.Meaning
-settling = Settle.meaning (Settle.settleAnswer roadA (2 ∷ []) 0 0 9 1)
+settling = Settle.meaning (Settle.settleAnswer roadA (openCaps 1) (2 ∷ []) 0 0 9 1)
 
 -- a word count that is answered
 abbrev pub answered : ℕ → CountAnswer
@@ -78,7 +79,7 @@ pub record Starred : Type 0 where
   pub one-cell : oneStepCells (101 ∷ []) 0 0 ≡ 20 ∷ []
   pub one-entered : oneStep (101 ∷ []) 0 0 .entered ≡ 0
   pub one-left : oneStep (101 ∷ []) 0 0 .left ≡ 81
-  pub one-exact : exactStep roadA 1 0 0 (101 ∷ []) ≡ 101 ∷ []
+  pub one-exact : exactStep roadA (openCaps 1) 1 0 0 (101 ∷ []) ≡ 101 ∷ []
   -- upstream 100, cells 300, 150, 700, downstream 0
   pub three-letters : threeLetters ≡ letterD ∷ letterL ∷ letterW ∷ letterL ∷ []
   pub three-cells : oneStepCells three 100 0 ≡ 220 ∷ 250 ∷ 600 ∷ []
@@ -89,7 +90,7 @@ pub record Starred : Type 0 where
   -- one cell 2, ends 0, T 9
   pub settled : settling .settled ≡ true
   pub settled-steps : settling .steps ≡ 1
-  pub settled-cell : Settle.settleOutput roadA (2 ∷ []) 0 0 9 (2 ∷ []) ≡ 0 ∷ []
+  pub settled-cell : Settle.settleOutput roadA (openCaps 1) (2 ∷ []) 0 0 9 (2 ∷ []) ≡ 0 ∷ []
   -- one cell 0, ends 0, word D W
   pub foreign-numerator : predicted roadA (0 ∷ []) 0 0 (letterD ∷ letterW ∷ []) (pos 0 ∷ []) ≡ negsuc 999 ∷ []
   -- word counts

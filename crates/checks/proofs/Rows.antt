@@ -2,7 +2,7 @@
 use mathlib.Core.Path.{_≡_, _∙_, refl}
 use mathlib.Core.Bool.{Bool, true, false, not}
 use mathlib.Core.List.{List, [], _∷_}
-use Prim.Native.Nat.{ℕ, zero, suc, _≤_, zero-le}
+use Prim.Native.Nat.{ℕ, zero, suc, _+_, _≤_, zero-le}
 use lib.Dec.{eqb, ltb}
 use lib.ListN.{getD}
 use borrow.Author.Tests.{eqb-true, eq-eqb, ltb-false, le-ltb, not-false}
@@ -14,7 +14,7 @@ use Rattle.road.specs.declared.refusal.Refusal.{Refusal}
 use Rattle.road.proofs.Table.{next-row, _&_}
 use Rattle.choice.proofs.Choice.{or-left, or-right, neither}
 use Rattle.road.proofs.Ranges.{from-low, to-high, inside}
-use Rattle.checks.specs.Lists.{badCells, badHorizon, badEnds, badOutput}
+use Rattle.checks.specs.Lists.{badCells, badHorizon, badEnds, badOutput, badCaps}
 use Rattle.checks.specs.Values.{firstAbove, anyAbove}
 use Rattle.checks.proofs.First.{none-above}
 
@@ -54,6 +54,12 @@ output-long expected given e = equal-of-not-eqb given expected e
 
 pub output-passes : (expected given : ℕ) → given ≡ expected → badOutput expected given ≡ false
 output-passes expected given e = alike given expected e
+
+pub caps-long : (cells caps : ℕ) → badCaps cells caps ≡ false → caps ≡ cells + 1
+caps-long cells caps e = equal-of-not-eqb caps (cells + 1) e
+
+pub caps-pass : (cells caps : ℕ) → caps ≡ cells + 1 → badCaps cells caps ≡ false
+caps-pass cells caps e = alike caps (cells + 1) e
 
 -- one density is below j where the list that holds it alone is
 one-below : {j x : ℕ} → x ≤ j → (i : ℕ) → getD (x ∷ []) i 0 ≤ j

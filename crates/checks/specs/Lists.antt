@@ -1,6 +1,6 @@
--- What the rows "Lists" of the refusal table test.
+-- What the rows "Lists" of the refusal table test, and the row of a cap list (document 02, E7).
 use mathlib.Core.Bool.{Bool, not}
-use Prim.Native.Nat.{ℕ}
+use Prim.Native.Nat.{ℕ, _+_}
 use lib.Dec.{eqb, ltb}
 use Rattle.choice.specs.Choice.{or}
 use Rattle.road.specs.Ceilings.{cellsCeiling, horizonCeiling}
@@ -21,3 +21,7 @@ badEnds t ups downs = or (not (eqb ups t)) (not (eqb downs t))
 -- 8: an output's length differs from its call's
 abbrev pub badOutput : ℕ → ℕ → Bool
 badOutput expected given = not (eqb given expected)
+
+-- 20: "a cap list whose length is not n+1"
+abbrev pub badCaps : ℕ → ℕ → Bool
+badCaps cells caps = not (eqb caps (cells + 1))

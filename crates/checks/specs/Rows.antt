@@ -1,4 +1,4 @@
--- The refusal table of document 01 and of document 02 up to E4, whole: a named row for each number. A call's table is a list of these names.
+-- The refusal table of document 01 and of document 02 up to E7, whole: a named row for each number. A call's table is a list of these names, in the call's order of checks.
 --
 --   number   row                        defined in                place reported
 --   1        divisorRow                 road, Judgement           0
@@ -20,12 +20,13 @@
 --   17       fastRow                    site, Station             0
 --   18       resultRow                  site, Station             0
 --   19       totalRow                   forecast, Forecast        0
+--   20       capsRow                    here                      0
 use mathlib.Core.List.{List, [], _∷_}
 use Prim.Native.Nat.{ℕ, _+_}
 use Rattle.choice.specs.Choice.{or}
 use Rattle.road.specs.Table.{Row, row}
 use Rattle.road.specs.declared.Road.{Road}
-use Rattle.checks.specs.Lists.{badCells, badHorizon, badEnds, badOutput}
+use Rattle.checks.specs.Lists.{badCells, badHorizon, badEnds, badOutput, badCaps}
 use Rattle.checks.specs.Values.{firstAbove, anyAbove}
 
 -- the rows "Lists", over the numbers of cells and of steps and the lengths of the lists
@@ -44,6 +45,10 @@ outputRow expected given = row (badOutput expected given) 8 0
 
 abbrev pub outputsRow : ℕ → ℕ → ℕ → ℕ → Row
 outputsRow expected given expected′ given′ = row (or (badOutput expected given) (badOutput expected′ given′)) 8 0
+
+-- 20, over the numbers of cells and of caps: "after 8 and before 9"
+abbrev pub capsRow : ℕ → ℕ → Row
+capsRow cells caps = row (badCaps cells caps) 20 0
 
 -- the rows "Values"
 abbrev pub cellRow : Road → List ℕ → Row

@@ -1,8 +1,9 @@
-// Rows 5 to 11 of the refusal table: one test a row, for every call that the table names, and 9 to 11 of one end pair.
+// Rows 5 to 11 and 20 of the refusal table: one test a row, for every call that the table names, and 9 to 11 of one end pair.
 mod lists;
 mod pairs;
 mod values;
 
+pub use lists::bad_caps;
 pub use lists::bad_cells;
 pub use lists::bad_ends;
 pub use lists::bad_horizon;

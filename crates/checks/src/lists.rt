@@ -1,6 +1,6 @@
-// The rows "Lists": the numbers of cells and steps, and the lengths of the ends and of an output.
+// The rows "Lists": the numbers of cells and steps, and the lengths of the ends, of an output and of a cap list.
 ghost use mathlib.Core.Path.{_≡_};
-ghost use Rattle.checks.specs.Lists.{badCells, badHorizon, badEnds, badOutput};
+ghost use Rattle.checks.specs.Lists.{badCells, badHorizon, badEnds, badOutput, badCaps};
 use road::Road;
 
 // Internal: 5, n is 0 or above its ceiling.
@@ -29,4 +29,11 @@ pub fn bad_output(expected: usize, given: usize) -> bool
     ensures { λ b. ⌜ b ≡ badOutput expected given ⌝ }
 {
     given != expected
+}
+
+// Internal: 20, a cap list's length is not n + 1. Nothing is added to n, which may be the largest number here.
+pub fn bad_caps(cells: usize, caps: usize) -> bool
+    ensures { λ b. ⌜ b ≡ badCaps cells caps ⌝ }
+{
+    if caps == 0 { true } else { caps - 1 != cells }
 }

@@ -55,10 +55,11 @@ pub fn act(
     cells: &mut [u32],
     ups: &[u32],
     downs: &[u32],
+    caps: &[u32],
     out: &mut [u32],
 ) -> u8 {
     let mut shades = buffers::shades();
-    if !steps::worked(road, cells, ups, downs, out, &mut shades) {
+    if !steps::worked(road, cells, ups, downs, caps, out, &mut shades) {
         return status::REFUSED;
     }
     let s = rows::measured(cells.len(), ups.len() + 1);

@@ -42,14 +42,14 @@ fn copy(from: &[u32], to: &mut [u32]) {
 
 // One step of the forecast, in place; whether it was made. The picture is drawn once the totals were judged: none are
 // carried here.
-fn step(road: Road, cells: &mut [u32], up: u32, down: u32, out: &mut [u32]) -> bool {
+fn step(road: Road, cells: &mut [u32], up: u32, down: u32, caps: &[u32], out: &mut [u32]) -> bool {
     let ups = [up; 1];
     let downs = [down; 1];
     let none = Totals {
         entered: 0,
         left: 0,
     };
-    match forecast::forecast(road, cells, &ups, &downs, 1, none, out) {
+    match forecast::forecast(road, cells, &ups, &downs, 1, caps, none, out) {
         ForecastAnswer::Done(_) => {
             copy(out, cells);
             true
@@ -64,6 +64,7 @@ pub fn worked(
     cells: &mut [u32],
     ups: &[u32],
     downs: &[u32],
+    caps: &[u32],
     out: &mut [u32],
     shades: &mut [u8],
 ) -> bool {
@@ -73,7 +74,7 @@ pub fn worked(
         if downs.len() <= t {
             return false;
         }
-        if !step(road, cells, ups[t], downs[t], out) {
+        if !step(road, cells, ups[t], downs[t], caps, out) {
             return false;
         }
         t += 1;

@@ -2,6 +2,7 @@
 use forecast::ForecastAnswer;
 use libc::STDOUT_FILENO;
 use road::Road;
+use scheme::OPEN;
 use scheme::Totals;
 
 fn text(s: &[u8]) {
@@ -50,7 +51,18 @@ fn main() {
         entered: 0,
         left: 0,
     };
-    match forecast::forecast(road, &[300, 150, 700], &[100], &[0], 1, totals, &mut out) {
+    // A cap for each face, face 0 first: the most units that it moves in a step. All four are open.
+    let caps = [OPEN; 4];
+    match forecast::forecast(
+        road,
+        &[300, 150, 700],
+        &[100],
+        &[0],
+        1,
+        &caps,
+        totals,
+        &mut out,
+    ) {
         ForecastAnswer::Done(record) => say_done(record.own.entered, record.own.left, &out),
         ForecastAnswer::Refused(refusal) => say_refused(refusal.number, refusal.place),
     }

@@ -1,4 +1,4 @@
--- The flow numerator and the units moved keep the laws of a flux, on every road whose speeds are at most the divisor, at every scale.
+-- The flow numerator and the units moved keep the laws of a flux, on every road whose speeds are at most the divisor, at every scale, under every cap.
 use mathlib.Core.Path.{_≡_, _∙_, sym, ap}
 use Prim.Native.Nat.{ℕ, _+_, _-_, _*_, _≤_, _<_, min, max}
 use native.Mathlib.Nat.{le-trans, mul-add, mul-le-mul-left, mul-le-mul-right, mul-le-mul, mul-comm, one-mul, min-eq-left, min-eq-right, max-eq-left, max-eq-right}
@@ -105,6 +105,19 @@ units-law r pos {j} {c} F law = record {
     grown f g k h =
         rw (one-mul k, ← units-shift r pos g k)
         (units-monotone r pos (rw (mul-comm (r .divisor) k) at h))
+
+-- a cap keeps the laws: the smaller of a lawful flow and one number is a lawful flow
+pub capped-law : {m j c : ℕ} {F : ℕ → ℕ → ℕ} → Law m j c F → (k : ℕ) → Law m j c (λ a b. min (F a b) k)
+capped-law law k = record {
+  up = λ a a′ b h. omega (arith, law .up a a′ b h);
+  down = λ a b b′ h. omega (arith, law .down a b b′ h);
+  send = λ a b. omega (arith, law .send a b);
+  room = λ a b. omega (arith, law .room a b);
+  free-in = λ l o o′ h e. ap (λ x. min x k) (law .free-in l o o′ h e);
+  free-out = λ o o′ d h e. omega (arith, law .free-out o o′ d h e);
+  full-out = λ o o′ d e h. ap (λ x. min x k) (law .full-out o o′ d e h);
+  full-in = λ l o o′ e h. omega (arith, law .full-in l o o′ e h);
+}
 
 -- the units moved over a face of an accepted road
 pub accepted-sound : {r : Road} → Accepted r → Sound r

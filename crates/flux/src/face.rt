@@ -13,7 +13,7 @@ pub const L: u8 = 1;
 pub const D: u8 = 2;
 
 // Internal: the smaller of two numbers.
-fn smaller(a: u32, b: u32) -> u32
+pub fn smaller(a: u32, b: u32) -> u32
     ensures { λ r. ⌜ r ≡ min a b ⌝ }
 {
     if a < b { a } else { b }

@@ -85,18 +85,20 @@ impl Pace {
         }
     }
 
-    // Internal: the units moved over the face between densities a and b.
-    pub fn flow(self, a: u32, b: u32) -> u32
+    // Internal: the units moved over the face between densities a and b, under its cap. A cap may be any number, which the
+    // signed comparison would take for a negative one: it is cut at the capacity first.
+    pub fn flow(self, a: u32, b: u32, cap: u32) -> u32
         requires { ⌜ Accepted (self .road) ⌝ }
         requires { ⌜ self ≡ paceOf (self .road) ⌝ }
         requires { ⌜ a ≤ self .road .jam ⌝ }
         requires { ⌜ b ≤ self .road .jam ⌝ }
-        ensures { λ u. ⌜ u ≡ units (self .road) (numerator (self .road) a b) ⌝ }
+        ensures { λ u. ⌜ u ≡ min (units (self .road) (numerator (self .road) a b)) cap ⌝ }
     {
         let send = self.send;
         let receive = self.receive;
         let sent = send.part(a);
         let received = receive.part(self.road.jam - b);
-        least(least(sent, received), self.capacity)
+        let most = face::smaller(cap, self.capacity);
+        least(least(sent, received), most)
     }
 }

@@ -32,34 +32,34 @@ use Rattle.forecast.proofs.Checked.{fits-pass, forecast-call, total-dec
 same-record : {d e : Record} → _≡_ {A = ForecastAnswer} (F.Done d) (F.Done e) → d ≡ e
 same-record q = cc
 
-module _ (r : Road) (cells ups downs : List ℕ) (t : ℕ) (out : List ℕ) where
+module _ (r : Road) (caps cells ups downs : List ℕ) (t : ℕ) (out : List ℕ) where
   -- demand 3, of every run that the checks let through
-  demand3 : InputChecked r cells ups downs t (length out) → (next : List ℕ) (own : Totals) → Ran r ups downs cells next own → Demand3 r cells ups downs t next (own .entered) (own .left)
+  demand3 : InputChecked r caps cells ups downs t (length out) → (next : List ℕ) (own : Totals) → Ran r caps ups downs cells next own → Demand3 r caps cells ups downs t next (own .entered) (own .left)
   demand3 c next own ran =
       let ok = c .accepted in
       record {
         ups-long = c .ups-long;
         downs-long = c .downs-long;
         after-steps = ran .cells;
-        long = ap length (ran .cells) ∙ roundRun-length r ups downs cells;
-        exact-long = exactRun-length r 1 ups downs cells;
-        exact-steps = exact-run-by-faces r ok 1 ups downs cells (c .ups-long ∙ sym (c .downs-long));
-        within = rw (ran .cells) (round-range r ok ups downs cells (c .cells-below));
-        balanced = rw (ran .cells, ran .entered, ran .left) (round-balance r ok ups downs cells);
-        near = rw (ran .cells, ← c .ups-long) (round-near r ok ups downs cells (c .ups-long ∙ sym (c .downs-long)));
+        long = ap length (ran .cells) ∙ roundRun-length r caps ups downs cells;
+        exact-long = exactRun-length r caps 1 ups downs cells;
+        exact-steps = exact-run-by-faces r caps ok 1 ups downs cells (c .ups-long ∙ sym (c .downs-long));
+        within = rw (ran .cells) (round-range r caps ok ups downs cells (c .cells-below));
+        balanced = rw (ran .cells, ran .entered, ran .left) (round-balance r caps ok ups downs cells);
+        near = rw (ran .cells, ← c .ups-long) (round-near r caps ok ups downs cells (c .ups-long ∙ sym (c .downs-long)));
       }
 
   -- and demand 2 of it
-  by-faces : InputChecked r cells ups downs t (length out) → (next : List ℕ) (own : Totals) → Ran r ups downs cells next own → RunByFaces r ups downs cells next (own .entered) (own .left)
+  by-faces : InputChecked r caps cells ups downs t (length out) → (next : List ℕ) (own : Totals) → Ran r caps ups downs cells next own → RunByFaces r caps ups downs cells next (own .entered) (own .left)
   by-faces c next own ran =
-      rw (ran .cells, ran .entered, ran .left) (run-by-faces r (c .accepted) ups downs cells (c .ups-long ∙ sym (c .downs-long)))
+      rw (ran .cells, ran .entered, ran .left) (run-by-faces r caps (c .accepted) ups downs cells (c .ups-long ∙ sym (c .downs-long)))
 
   module _ (totals : Totals) where
     -- refused: the number and place of the table, and the former contents
-    pub forecast-refused : (f : Refusal) → f ≡ forecastRefusal r cells ups downs t totals (length out) → (f .number ≡ 0 → ⊥) → Forecasts r cells ups downs t totals out out (F.Refused f)
+    pub forecast-refused : (f : Refusal) → f ≡ forecastRefusal r caps cells ups downs t totals (length out) → (f .number ≡ 0 → ⊥) → Forecasts r caps cells ups downs t totals out out (F.Refused f)
     unfolding forecastAnswer forecastCells forecastMeaning
     forecast-refused f e n =
-        let k = refuses (forecast-call r cells ups downs t (length out) totals) e n in
+        let k = refuses (forecast-call r caps cells ups downs t (length out) totals) e n in
         record {
           answer = rw (k .no) (ap F.Refused e);
           means = rw (k .no) (ap (λ (g : Refusal). meaning (F.Refused g)) e);
@@ -70,22 +70,22 @@ module _ (r : Road) (cells ups downs : List ℕ) (t : ℕ) (out : List ℕ) wher
           carried = λ d q. absurd (true≢false (cc q));
         }
 
-    module _ (c : InputChecked r cells ups downs t (length out)) {next : List ℕ} {own : Totals} (ran : Ran r ups downs cells next own) where
-      sums : own ≡ ownOf r cells ups downs
+    module _ (c : InputChecked r caps cells ups downs t (length out)) {next : List ℕ} {own : Totals} (ran : Ran r caps ups downs cells next own) where
+      sums : own ≡ ownOf r caps cells ups downs
       sums i = record { entered = ran .entered i; left = ran .left i }
 
       -- once the run is made 19 decides, of its own sums
-      decided : {passes : Bool} → passes ≡ totalRow totals own .condition → forecastRefusal r cells ups downs t totals (length out) ≡ pick passes (refused 19 0) passed
-      decided q = total-decides r cells ups downs t (length out) totals c (q ∙ ap (λ (o : Totals). totalRow totals o .condition) sums)
+      decided : {passes : Bool} → passes ≡ totalRow totals own .condition → forecastRefusal r caps cells ups downs t totals (length out) ≡ pick passes (refused 19 0) passed
+      decided q = total-decides r caps cells ups downs t (length out) totals c (q ∙ ap (λ (o : Totals). totalRow totals o .condition) sums)
 
-      pub total-refused : {passes : Bool} → passes ≡ totalRow totals own .condition → passes ≡ true → Forecasts r cells ups downs t totals out out (F.Refused (refused 19 0))
+      pub total-refused : {passes : Bool} → passes ≡ totalRow totals own .condition → passes ≡ true → Forecasts r caps cells ups downs t totals out out (F.Refused (refused 19 0))
       total-refused q holds = forecast-refused (refused 19 0) (rw holds at (sym (decided q))) (λ z. absurd (omega arith))
 
       -- accepted: the run's sums and cells, and the totals with the sums in them
-      pub forecast-done : Fits totals own → Forecasts r cells ups downs t totals out next (F.Done (carriedOn totals own))
+      pub forecast-done : Fits totals own → Forecasts r caps cells ups downs t totals out next (F.Done (carriedOn totals own))
       unfolding forecastAnswer forecastCells forecastMeaning
       forecast-done f =
-          let k = accepts (forecast-call r cells ups downs t (length out) totals) (ap (λ (f : Refusal). f .number) (decided (sym (fits-pass totals own f)))) in
+          let k = accepts (forecast-call r caps cells ups downs t (length out) totals) (ap (λ (f : Refusal). f .number) (decided (sym (fits-pass totals own f)))) in
           record {
             answer = rw (k .yes) (ap (λ (o : Totals). F.Done (carriedOn totals o)) sums);
             means = rw (k .yes) (λ i. record {
@@ -98,15 +98,15 @@ module _ (r : Road) (cells ups downs : List ℕ) (t : ℕ) (out : List ℕ) wher
             });
             output = rw (k .yes) (ran .cells);
             judged = k .judged;
-            demand3 = λ d q. subst (λ (x : Record). Demand3 r cells ups downs t next (x .own .entered) (x .own .left)) (same-record q) (demand3 c next own ran);
-            by-faces = λ d q. subst (λ (x : Record). RunByFaces r ups downs cells next (x .own .entered) (x .own .left)) (same-record q) (by-faces c next own ran);
+            demand3 = λ d q. subst (λ (x : Record). Demand3 r caps cells ups downs t next (x .own .entered) (x .own .left)) (same-record q) (demand3 c next own ran);
+            by-faces = λ d q. subst (λ (x : Record). RunByFaces r caps ups downs cells next (x .own .entered) (x .own .left)) (same-record q) (by-faces c next own ran);
             carried = λ d q. subst (λ (x : Record). x .totals ≡ increased totals (x .own)) (same-record q) refl;
           }
 
       -- neither sum is more than jam's ceiling for each step: where so much fits, the sums do
       pub most-fits : Fits totals (record { entered = t * jamCeiling; left = t * jamCeiling }) → Fits totals own
       most-fits f =
-          let small = rw (c .ups-long) at (round-small r (c .accepted) ups downs cells (c .ups-below) (c .cells-below)) in
+          let small = rw (c .ups-long) at (round-small r caps (c .accepted) ups downs cells (c .ups-below) (c .cells-below)) in
           record {
             entered-fits = omega (arith, f .entered-fits, small .0, ran .entered);
             left-fits = omega (arith, f .left-fits, small .1, ran .left);
@@ -116,23 +116,23 @@ same-settled : {d e : Settled} → _≡_ {A = SettleAnswer} (S.Done d) (S.Done e
 same-settled q = cc
 
 -- the settling run, refused and accepted
-module _ (r : Road) (cells : List ℕ) (up down t : ℕ) (out : List ℕ) where
-  settlement : SettleChecked r cells up down t (length out) → (next : List ℕ) (d : Settled) → SettledTo r up down t cells next d → Settlement r cells up down t next d
+module _ (r : Road) (caps cells : List ℕ) (up down t : ℕ) (out : List ℕ) where
+  settlement : SettleChecked r caps cells up down t (length out) → (next : List ℕ) (d : Settled) → SettledTo r caps up down t cells next d → Settlement r caps cells up down t next d
   unfolding settleCells
   settlement c next d ran =
-      let reached : next ≡ after r up down (d .steps) cells = ran .cells ∙ ap (λ (k : ℕ). after r up down k cells) (sym (ran .steps)) in
+      let reached : next ≡ after r caps up down (d .steps) cells = ran .cells ∙ ap (λ (k : ℕ). after r caps up down k cells) (sym (ran .steps)) in
       record {
-        least = rw (ran .settled, ran .steps) (least-still r up down t cells);
+        least = rw (ran .settled, ran .steps) (least-still r caps up down t cells);
         state = reached;
-        by-faces = rw reached (after-by-faces r (c .accepted) up down (d .steps) cells);
-        long = ap length (ran .cells) ∙ settle-length r up down t cells;
-        within = rw (ran .cells) (settle-range r (c .accepted) up down t cells (c .cells-below));
+        by-faces = rw reached (after-by-faces r caps (c .accepted) up down (d .steps) cells);
+        long = ap length (ran .cells) ∙ settle-length r caps up down t cells;
+        within = rw (ran .cells) (settle-range r caps (c .accepted) up down t cells (c .cells-below));
       }
 
-  pub settle-refused : (f : Refusal) → f ≡ settleRefusal r cells up down t (length out) → (f .number ≡ 0 → ⊥) → Settles r cells up down t out out (S.Refused f)
+  pub settle-refused : (f : Refusal) → f ≡ settleRefusal r caps cells up down t (length out) → (f .number ≡ 0 → ⊥) → Settles r caps cells up down t out out (S.Refused f)
   unfolding settleAnswer settleOutput settleMeaning
   settle-refused f e n =
-      let k = refuses (settle-call r cells up down t (length out)) e n in
+      let k = refuses (settle-call r caps cells up down t (length out)) e n in
       record {
         answer = rw (k .no) (ap S.Refused e);
         means = rw (k .no) (ap (λ (g : Refusal). settle-meaning (S.Refused g)) e);
@@ -141,11 +141,11 @@ module _ (r : Road) (cells : List ℕ) (up down t : ℕ) (out : List ℕ) where
         settlement = λ d q. absurd (true≢false (cc q));
       }
 
-  pub settle-done : settleRefusal r cells up down t (length out) .number ≡ 0 → (next : List ℕ) (d : Settled) → SettledTo r up down t cells next d → Settles r cells up down t out next (S.Done d)
+  pub settle-done : settleRefusal r caps cells up down t (length out) .number ≡ 0 → (next : List ℕ) (d : Settled) → SettledTo r caps up down t cells next d → Settles r caps cells up down t out next (S.Done d)
   unfolding settleAnswer settleOutput settleMeaning
   settle-done e next d ran =
-      let k = accepts (settle-call r cells up down t (length out)) e in
-      let made : d ≡ record { settled = settles r up down t cells; steps = settleSteps r up down t cells } = λ i. record { settled = ran .settled i; steps = ran .steps i } in
+      let k = accepts (settle-call r caps cells up down t (length out)) e in
+      let made : d ≡ record { settled = settles r caps up down t cells; steps = settleSteps r caps up down t cells } = λ i. record { settled = ran .settled i; steps = ran .steps i } in
       record {
         answer = rw (k .yes) (ap S.Done made);
         means = rw (k .yes) (λ i. record { number = sym (k .nothing) i .number; place = sym (k .nothing) i .place; settled = ran .settled i; steps = ran .steps i });

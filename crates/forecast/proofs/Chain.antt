@@ -26,23 +26,23 @@ record Counts (s : Site) (a : ForecastAnswer) (after : Site) : Type 0 where
 
 module _ (s : Site) (c : Call) where
   abbrev refusal : Refusal
-  refusal = forecastRefusal (c .road) (s .cells) (c .ups) (c .downs) (c .horizon) (s .totals) (length (c .out))
+  refusal = forecastRefusal (c .road) (c .caps) (s .cells) (c .ups) (c .downs) (c .horizon) (s .totals) (length (c .out))
 
   -- accepted: its record, and a site with its cells and totals
   module _ (yes : eqb (refusal .number) 0 ≡ true) where
-    pub answers : answerTo s c ≡ Done (recordOf (c .road) (s .cells) (c .ups) (c .downs) (s .totals))
+    pub answers : answerTo s c ≡ Done (recordOf (c .road) (c .caps) (s .cells) (c .ups) (c .downs) (s .totals))
     unfolding forecastAnswer
     answers = rw yes refl
 
-    pub feeds : afterCall s c ≡ record { cells = roundRun (c .road) (c .ups) (c .downs) (s .cells); totals = increased (s .totals) (ownOf (c .road) (s .cells) (c .ups) (c .downs)) }
+    pub feeds : afterCall s c ≡ record { cells = roundRun (c .road) (c .caps) (c .ups) (c .downs) (s .cells); totals = increased (s .totals) (ownOf (c .road) (c .caps) (s .cells) (c .ups) (c .downs)) }
     unfolding forecastAnswer forecastCells
     feeds = rw yes refl
 
     accepted-counts : Counts s (answerTo s c) (afterCall s c)
     accepted-counts =
-        let checked = Calls.checked (forecast-call (c .road) (s .cells) (c .ups) (c .downs) (c .horizon) (length (c .out)) (s .totals)) (eqb-true (refusal .number) 0 yes) in
+        let checked = Calls.checked (forecast-call (c .road) (c .caps) (s .cells) (c .ups) (c .downs) (c .horizon) (length (c .out)) (s .totals)) (eqb-true (refusal .number) 0 yes) in
         rw (feeds, answers) record {
-          balanced = round-balance (c .road) (checked .input .accepted) (c .ups) (c .downs) (s .cells);
+          balanced = round-balance (c .road) (c .caps) (checked .input .accepted) (c .ups) (c .downs) (s .cells);
           entered = refl;
           left = refl;
         }
@@ -68,7 +68,7 @@ module _ (s : Site) (c : Call) where
       by false e = refused-counts e
 
   -- a call made: what its contract says it answered and left in its output feeds the site
-  pub made-feeds : {next : List ℕ} {a : ForecastAnswer} → Forecasts (c .road) (s .cells) (c .ups) (c .downs) (c .horizon) (s .totals) (c .out) next a → fed s next a ≡ afterCall s c
+  pub made-feeds : {next : List ℕ} {a : ForecastAnswer} → Forecasts (c .road) (c .caps) (s .cells) (c .ups) (c .downs) (c .horizon) (s .totals) (c .out) next a → fed s next a ≡ afterCall s c
   made-feeds made = λ i. fed s (made .output i) (made .answer i)
 
   -- "A refused call in the chain alters neither"

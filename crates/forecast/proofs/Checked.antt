@@ -19,7 +19,7 @@ use Rattle.road.proofs.Calls.{Call}
 use Rattle.checks.specs.Rows.{valueRows, pairRows}
 use Rattle.checks.specs.Places.{Placed}
 use Rattle.checks.proofs.First.{all-below, none-above}
-use Rattle.checks.proofs.Rows.{cells-low, cells-high, cells-pass, horizon-high, horizon-passes, ups-long, downs-long, ends-pass, output-long, output-passes, pair-passes}
+use Rattle.checks.proofs.Rows.{cells-low, cells-high, cells-pass, horizon-high, horizon-passes, ups-long, downs-long, ends-pass, output-long, output-passes, caps-long, caps-pass, pair-passes}
 use Rattle.checks.proofs.Places.{values-placed}
 use Rattle.scheme.specs.declared.many_steps.Totals.{Totals}
 use Rattle.forecast.specs.Forecast.{shapeRows, shapeRefusal, inputRows, inputRefusal, InputChecked, ownOf, largest, passesLargest, totalRow, totalRows, forecastRows, forecastRefusal, Fits, Checked}
@@ -38,25 +38,25 @@ module _ (totals own : Totals) where
       neither (passesLargest (totals .entered) (own .entered)) (passesLargest (totals .left) (own .left))
       (le-ltb largest _ (f .entered-fits)) (le-ltb largest _ (f .left-fits))
 
-module _ (r : Road) (cells ups downs : List ℕ) (t out : ℕ) where
+module _ (r : Road) (caps cells ups downs : List ℕ) (t out : ℕ) where
   -- a refusal of the shape stands
-  pub shape-stands : (f : Refusal) → f ≡ shapeRefusal r (length cells) (length ups) (length downs) t out → (f .number ≡ 0 → ⊥) → f ≡ inputRefusal r cells ups downs t out
+  pub shape-stands : (f : Refusal) → f ≡ shapeRefusal r (length caps) (length cells) (length ups) (length downs) t out → (f .number ≡ 0 → ⊥) → f ≡ inputRefusal r caps cells ups downs t out
   unfolding shapeRefusal inputRefusal
-  shape-stands = part-stands (shapeRows r (length cells) (length ups) (length downs) t out) (valueRows r cells ups downs)
+  shape-stands = part-stands (shapeRows r (length caps) (length cells) (length ups) (length downs) t out) (valueRows r cells ups downs)
 
   -- the lists are short once the shape is right
-  pub shape-short : shapeRefusal r (length cells) (length ups) (length downs) t out .number ≡ 0
+  pub shape-short : shapeRefusal r (length caps) (length cells) (length ups) (length downs) t out .number ≡ 0
       → (length cells ≤ cellsCeiling) × ((length ups ≤ horizonCeiling) × (length downs ≤ horizonCeiling))
   unfolding shapeRefusal
   shape-short e =
-      let no = none-holds (shapeRows r (length cells) (length ups) (length downs) t out) tt e in
+      let no = none-holds (shapeRows r (length caps) (length cells) (length ups) (length downs) t out) tt e in
       let high = horizon-high t (no 6) in
       let up = ups-long t (length ups) (length downs) (no 7) in
       let down = downs-long t (length ups) (length downs) (no 7) in
       (cells-high (length cells) (no 5), (omega arith, omega arith))
 
-  -- rows 1 to 11 hold of nothing exactly where the input is checked
-  input-of : ((n : ℕ) → conditionOf n (inputRows r cells ups downs t out) ≡ false) → InputChecked r cells ups downs t out
+  -- the rows before 19 hold of nothing exactly where the input is checked
+  input-of : ((n : ℕ) → conditionOf n (inputRows r caps cells ups downs t out) ≡ false) → InputChecked r caps cells ups downs t out
   input-of none = record {
     accepted = accepted-by r (none 1) (none 2) (none 3) (none 4);
     cells-low = cells-low (length cells) (none 5);
@@ -65,61 +65,63 @@ module _ (r : Road) (cells ups downs : List ℕ) (t out : ℕ) where
     ups-long = ups-long t (length ups) (length downs) (none 7);
     downs-long = downs-long t (length ups) (length downs) (none 7);
     output-long = output-long (length cells) out (none 8);
+    caps-long = caps-long (length cells) (length caps) (none 20);
     cells-below = all-below (r .jam) cells (none 9);
     ups-below = all-below (r .jam) ups (none 10);
     downs-below = all-below (r .jam) downs (none 11);
   }
 
-  input-passes : InputChecked r cells ups downs t out → Passing (inputRows r cells ups downs t out)
+  input-passes : InputChecked r caps cells ups downs t out → Passing (inputRows r caps cells ups downs t out)
   input-passes c = road-passes r (c .accepted)
       (cells-pass (length cells) (c .cells-low) (c .cells-high)
       & horizon-passes t (c .horizon-high)
       & ends-pass t (length ups) (length downs) (c .ups-long) (c .downs-long)
       & output-passes (length cells) out (c .output-long)
+      & caps-pass (length cells) (length caps) (c .caps-long)
       & none-above (r .jam) cells (c .cells-below)
       & none-above (r .jam) ups (c .ups-below)
       & none-above (r .jam) downs (c .downs-below)
       & tt)
 
-  pub input-checked : inputRefusal r cells ups downs t out .number ≡ 0 → InputChecked r cells ups downs t out
+  pub input-checked : inputRefusal r caps cells ups downs t out .number ≡ 0 → InputChecked r caps cells ups downs t out
   unfolding inputRefusal
-  input-checked e = input-of (none-holds (inputRows r cells ups downs t out) tt e)
+  input-checked e = input-of (none-holds (inputRows r caps cells ups downs t out) tt e)
 
   -- checked with one output is checked with another that is as long
-  pub with-output : InputChecked r cells ups downs t out → (other : ℕ) → other ≡ length cells → InputChecked r cells ups downs t other
-  with-output c other e = subst (InputChecked r cells ups downs t) (c .output-long ∙ sym e) c
+  pub with-output : InputChecked r caps cells ups downs t out → (other : ℕ) → other ≡ length cells → InputChecked r caps cells ups downs t other
+  with-output c other e = subst (InputChecked r caps cells ups downs t) (c .output-long ∙ sym e) c
 
   module _ (totals : Totals) where
-    -- a refusal by rows 1 to 11 stands
-    pub input-stands : (f : Refusal) → f ≡ inputRefusal r cells ups downs t out → (f .number ≡ 0 → ⊥) → f ≡ forecastRefusal r cells ups downs t totals out
+    -- a refusal by the rows before 19 stands
+    pub input-stands : (f : Refusal) → f ≡ inputRefusal r caps cells ups downs t out → (f .number ≡ 0 → ⊥) → f ≡ forecastRefusal r caps cells ups downs t totals out
     unfolding inputRefusal forecastRefusal
-    input-stands = part-stands (inputRows r cells ups downs t out) (totalRows r cells ups downs totals)
+    input-stands = part-stands (inputRows r caps cells ups downs t out) (totalRows r caps cells ups downs totals)
 
     -- the whole table refuses nothing exactly of a checked input with totals that fit
-    pub forecast-call : Call (forecastRows r cells ups downs t totals out) (Checked r cells ups downs t totals out) (Placed r cells ups downs) (forecastRefusal r cells ups downs t totals out)
+    pub forecast-call : Call (forecastRows r caps cells ups downs t totals out) (Checked r caps cells ups downs t totals out) (Placed r cells ups downs) (forecastRefusal r caps cells ups downs t totals out)
     unfolding forecastRefusal
     forecast-call = record {
       is = refl;
       distinct = tt;
       placed = λ at. values-placed r cells ups downs _ (at 9 tt) (at 10 tt) (at 11 tt);
       of = λ no. record {
-        input = input-of (λ n. part-clear (inputRows r cells ups downs t out) (totalRows r cells ups downs totals) n (no n));
-        fits = fits-by totals (ownOf r cells ups downs) (no 19);
+        input = input-of (λ n. part-clear (inputRows r caps cells ups downs t out) (totalRows r caps cells ups downs totals) n (no n));
+        fits = fits-by totals (ownOf r caps cells ups downs) (no 19);
       };
-      passes = λ c. parts-pass (inputRows r cells ups downs t out) (totalRows r cells ups downs totals)
-          (input-passes (c .input)) (fits-pass totals (ownOf r cells ups downs) (c .fits) & tt);
+      passes = λ c. parts-pass (inputRows r caps cells ups downs t out) (totalRows r caps cells ups downs totals)
+          (input-passes (c .input)) (fits-pass totals (ownOf r caps cells ups downs) (c .fits) & tt);
     }
 
     -- where they refuse nothing, 19 decides
-    pub total-decides : InputChecked r cells ups downs t out → {passes : Bool} → passes ≡ totalRow totals (ownOf r cells ups downs) .condition
-        → forecastRefusal r cells ups downs t totals out ≡ pick passes (refused 19 0) passed
+    pub total-decides : InputChecked r caps cells ups downs t out → {passes : Bool} → passes ≡ totalRow totals (ownOf r caps cells ups downs) .condition
+        → forecastRefusal r caps cells ups downs t totals out ≡ pick passes (refused 19 0) passed
     unfolding forecastRefusal orIf
     total-decides c q =
-        judge-append passed (inputRows r cells ups downs t out) (totalRows r cells ups downs totals)
-        ∙ next-row 19 (all-pass (inputRows r cells ups downs t out) (input-passes c)) (sym q) refl
+        judge-append passed (inputRows r caps cells ups downs t out) (totalRows r caps cells ups downs totals)
+        ∙ next-row 19 (all-pass (inputRows r caps cells ups downs t out) (input-passes c)) (sym q) refl
 
-module _ (r : Road) (cells : List ℕ) (up down t out : ℕ) where
-  pub settle-call : Call (settleRows r cells up down t out) (SettleChecked r cells up down t out) (Placed r cells (up ∷ []) (down ∷ [])) (settleRefusal r cells up down t out)
+module _ (r : Road) (caps cells : List ℕ) (up down t out : ℕ) where
+  pub settle-call : Call (settleRows r caps cells up down t out) (SettleChecked r caps cells up down t out) (Placed r cells (up ∷ []) (down ∷ [])) (settleRefusal r caps cells up down t out)
   unfolding settleRefusal
   settle-call = record {
     is = refl;
@@ -131,6 +133,7 @@ module _ (r : Road) (cells : List ℕ) (up down t out : ℕ) where
       cells-high = cells-high (length cells) (no 5);
       horizon-high = horizon-high t (no 6);
       output-long = output-long (length cells) out (no 8);
+      caps-long = caps-long (length cells) (length caps) (no 20);
       cells-below = all-below (r .jam) cells (no 9);
       up-below = all-below (r .jam) (up ∷ []) (no 10) 0;
       down-below = all-below (r .jam) (down ∷ []) (no 11) 0;
@@ -139,13 +142,14 @@ module _ (r : Road) (cells : List ℕ) (up down t out : ℕ) where
         (cells-pass (length cells) (c .cells-low) (c .cells-high)
         & horizon-passes t (c .horizon-high)
         & output-passes (length cells) out (c .output-long)
+        & caps-pass (length cells) (length caps) (c .caps-long)
         & pair-passes r cells up down (c .cells-below) (c .up-below) (c .down-below) tt);
   }
 
-  pub settle-shape-stands : (f : Refusal) → f ≡ settleShapeRefusal r (length cells) t out → (f .number ≡ 0 → ⊥) → f ≡ settleRefusal r cells up down t out
+  pub settle-shape-stands : (f : Refusal) → f ≡ settleShapeRefusal r (length caps) (length cells) t out → (f .number ≡ 0 → ⊥) → f ≡ settleRefusal r caps cells up down t out
   unfolding settleShapeRefusal settleRefusal
-  settle-shape-stands = part-stands (settleShapeRows r (length cells) t out) (pairRows r cells up down)
+  settle-shape-stands = part-stands (settleShapeRows r (length caps) (length cells) t out) (pairRows r cells up down)
 
-  pub settle-shape-short : settleShapeRefusal r (length cells) t out .number ≡ 0 → length cells ≤ cellsCeiling
+  pub settle-shape-short : settleShapeRefusal r (length caps) (length cells) t out .number ≡ 0 → length cells ≤ cellsCeiling
   unfolding settleShapeRefusal
-  settle-shape-short e = cells-high (length cells) (none-holds (settleShapeRows r (length cells) t out) tt e 5)
+  settle-shape-short e = cells-high (length cells) (none-holds (settleShapeRows r (length caps) (length cells) t out) tt e 5)

@@ -48,10 +48,10 @@ Made r n steps s c = IsDone r s c × Keeps r n (steps + forecastSteps (c ∷ [])
 -- a forecast that passes its checks, within the lifetime
 module _ (n steps : ℕ) (s : Site) (c : Call) (f : Feeds (c .road) n s) (small : Small steps s) (p : ForecastPasses (c .road) n c)
     (within : steps + c .horizon ≤ lifetime) where
-  moved : (entered (c .road) (c .ups) (c .downs) (s .cells) ≤ c .horizon * jamCeiling) × (left (c .road) (c .ups) (c .downs) (s .cells) ≤ c .horizon * jamCeiling)
-  moved = rw (p .ups-long) at (round-small (c .road) (f .accepted) (c .ups) (c .downs) (s .cells) (p .ups-below) (f .below))
+  moved : (entered (c .road) (c .caps) (c .ups) (c .downs) (s .cells) ≤ c .horizon * jamCeiling) × (left (c .road) (c .caps) (c .ups) (c .downs) (s .cells) ≤ c .horizon * jamCeiling)
+  moved = rw (p .ups-long) at (round-small (c .road) (c .caps) (f .accepted) (c .ups) (c .downs) (s .cells) (p .ups-below) (f .below))
 
-  checked : Checked (c .road) (s .cells) (c .ups) (c .downs) (c .horizon) (s .totals) (length (c .out))
+  checked : Checked (c .road) (c .caps) (s .cells) (c .ups) (c .downs) (c .horizon) (s .totals) (length (c .out))
   checked = record {
     input = record {
       accepted = f .accepted;
@@ -61,6 +61,7 @@ module _ (n steps : ℕ) (s : Site) (c : Call) (f : Feeds (c .road) n s) (small 
       ups-long = p .ups-long;
       downs-long = p .downs-long;
       output-long = p .output-long ∙ sym (f .long);
+      caps-long = rw (f .long) (p .caps-long);
       cells-below = f .below;
       ups-below = p .ups-below;
       downs-below = p .downs-below;
@@ -71,8 +72,8 @@ module _ (n steps : ℕ) (s : Site) (c : Call) (f : Feeds (c .road) n s) (small 
     };
   }
 
-  accepts : eqb (forecastRefusal (c .road) (s .cells) (c .ups) (c .downs) (c .horizon) (s .totals) (length (c .out)) .number) 0 ≡ true
-  accepts = accepts-checked (forecast-call (c .road) (s .cells) (c .ups) (c .downs) (c .horizon) (length (c .out)) (s .totals)) checked
+  accepts : eqb (forecastRefusal (c .road) (c .caps) (s .cells) (c .ups) (c .downs) (c .horizon) (s .totals) (length (c .out)) .number) 0 ≡ true
+  accepts = accepts-checked (forecast-call (c .road) (c .caps) (s .cells) (c .ups) (c .downs) (c .horizon) (length (c .out)) (s .totals)) checked
 
   forecast-made : Made (c .road) n steps s (forecast c)
   forecast-made = (
@@ -80,44 +81,45 @@ module _ (n steps : ℕ) (s : Site) (c : Call) (f : Feeds (c .road) n s) (small 
     rw (feeds s c accepts, answers s c accepts, enteredIn, leftIn) record {
       feeds = record {
         accepted = f .accepted;
-        long = roundRun-length (c .road) (c .ups) (c .downs) (s .cells) ∙ f .long;
+        long = roundRun-length (c .road) (c .caps) (c .ups) (c .downs) (s .cells) ∙ f .long;
         low = f .low;
         high = f .high;
-        below = round-range (c .road) (f .accepted) (c .ups) (c .downs) (s .cells) (f .below);
+        below = round-range (c .road) (c .caps) (f .accepted) (c .ups) (c .downs) (s .cells) (f .below);
       };
       small = record {
         entered = omega (arith, moved .0, small .entered);
         left = omega (arith, moved .1, small .left);
       };
-      balanced = round-balance (c .road) (f .accepted) (c .ups) (c .downs) (s .cells);
+      balanced = round-balance (c .road) (c .caps) (f .accepted) (c .ups) (c .downs) (s .cells);
     },
   )
 
 -- a settling run likewise, which leaves the totals alone
 module _ (r : Road) (n steps : ℕ) (s : Site) (c : SettleCall) (f : Feeds r n s) (small : Small steps s) (p : SettlePasses r n c) where
-  settle-checked : SettleChecked r (s .cells) (c .up) (c .down) (c .horizon) (length (c .out))
+  settle-checked : SettleChecked r (c .caps) (s .cells) (c .up) (c .down) (c .horizon) (length (c .out))
   settle-checked = record {
     accepted = f .accepted;
     cells-low = rw (f .long) (f .low);
     cells-high = rw (f .long) (f .high);
     horizon-high = p .horizon-high;
     output-long = p .output-long ∙ sym (f .long);
+    caps-long = rw (f .long) (p .caps-long);
     cells-below = f .below;
     up-below = p .up-below;
     down-below = p .down-below;
   }
 
-  settle-accepts : eqb (settleRefusal r (s .cells) (c .up) (c .down) (c .horizon) (length (c .out)) .number) 0 ≡ true
-  settle-accepts = accepts-checked (settle-call r (s .cells) (c .up) (c .down) (c .horizon) (length (c .out))) settle-checked
+  settle-accepts : eqb (settleRefusal r (c .caps) (s .cells) (c .up) (c .down) (c .horizon) (length (c .out)) .number) 0 ≡ true
+  settle-accepts = accepts-checked (settle-call r (c .caps) (s .cells) (c .up) (c .down) (c .horizon) (length (c .out))) settle-checked
 
-  settle-answers : settleAnswerTo r s c ≡ S.Done (record { settled = settles r (c .up) (c .down) (c .horizon) (s .cells); steps = settleSteps r (c .up) (c .down) (c .horizon) (s .cells) })
+  settle-answers : settleAnswerTo r s c ≡ S.Done (record { settled = settles r (c .caps) (c .up) (c .down) (c .horizon) (s .cells); steps = settleSteps r (c .caps) (c .up) (c .down) (c .horizon) (s .cells) })
   unfolding settleAnswer
   settle-answers = rw settle-accepts refl
 
-  reports : stepsReported r s c ≡ settleSteps r (c .up) (c .down) (c .horizon) (s .cells)
+  reports : stepsReported r s c ≡ settleSteps r (c .caps) (c .up) (c .down) (c .horizon) (s .cells)
   reports = ap (λ (a : SettleAnswer). settle-meaning a .steps) settle-answers
 
-  settle-leaves : siteAfter r s (settle c) ≡ record { cells = settleCells r (c .up) (c .down) (c .horizon) (s .cells); totals = s .totals }
+  settle-leaves : siteAfter r s (settle c) ≡ record { cells = settleCells r (c .caps) (c .up) (c .down) (c .horizon) (s .cells); totals = s .totals }
   unfolding settleAnswer settleOutput
   settle-leaves = rw settle-accepts refl
 
@@ -128,13 +130,13 @@ module _ (r : Road) (n steps : ℕ) (s : Site) (c : SettleCall) (f : Feeds r n s
     rw (settle-leaves, reports) record {
       feeds = record {
         accepted = f .accepted;
-        long = settle-length r (c .up) (c .down) (c .horizon) (s .cells) ∙ f .long;
+        long = settle-length r (c .caps) (c .up) (c .down) (c .horizon) (s .cells) ∙ f .long;
         low = f .low;
         high = f .high;
-        below = settle-range r (f .accepted) (c .up) (c .down) (c .horizon) (s .cells) (f .below);
+        below = settle-range r (c .caps) (f .accepted) (c .up) (c .down) (c .horizon) (s .cells) (f .below);
       };
       small = record { entered = omega (arith, small .entered); left = omega (arith, small .left) };
-      balanced = after-balance r (f .accepted) (c .up) (c .down) (settleSteps r (c .up) (c .down) (c .horizon) (s .cells)) (s .cells);
+      balanced = after-balance r (c .caps) (f .accepted) (c .up) (c .down) (settleSteps r (c .caps) (c .up) (c .down) (c .horizon) (s .cells)) (s .cells);
     },
   )
 

@@ -6,14 +6,14 @@ use Rattle.road.specs.declared.Road.{Road}
 use Rattle.scheme.specs.Rounded.{roundRun, entered, left}
 
 -- the start comes back, and nothing enters or leaves
-pub no-steps : (r : Road) (downs cells : List ℕ) → roundRun r [] downs cells ≡ cells
+pub no-steps : (r : Road) (caps downs cells : List ℕ) → roundRun r caps [] downs cells ≡ cells
 unfolding roundRun
-no-steps r downs cells = refl
+no-steps r caps downs cells = refl
 
-pub nothing-enters : (r : Road) (downs cells : List ℕ) → entered r [] downs cells ≡ 0
+pub nothing-enters : (r : Road) (caps downs cells : List ℕ) → entered r caps [] downs cells ≡ 0
 unfolding entered
-nothing-enters r downs cells = refl
+nothing-enters r caps downs cells = refl
 
-pub nothing-leaves : (r : Road) (downs cells : List ℕ) → left r [] downs cells ≡ 0
+pub nothing-leaves : (r : Road) (caps downs cells : List ℕ) → left r caps [] downs cells ≡ 0
 unfolding left
-nothing-leaves r downs cells = refl
+nothing-leaves r caps downs cells = refl

@@ -10,9 +10,10 @@ use Rattle.forecast.specs.declared.forecasting.ForecastAnswer.{ForecastA
 use Rattle.forecast.specs.declared.forecasting.ForecastAnswer.the-variants.{Done, Refused}
 use Rattle.forecast.specs.Forecast.{forecastAnswer, forecastCells, meaning}
 
--- a forecast of the chain: its road, its horizon, its end lists, and what its output held before
+-- a forecast of the chain: its road, its caps, its horizon, its end lists, and what its output held before
 pub record Call : Type 0 where
   pub road : Road
+  pub caps : List ℕ
   pub horizon : ℕ
   pub ups : List ℕ
   pub downs : List ℕ
@@ -25,10 +26,10 @@ pub record Site : Type 0 where
 
 -- what a call at the site answers, and what it leaves in its output
 abbrev pub answerTo : Site → Call → ForecastAnswer
-answerTo s c = forecastAnswer (c .road) (s .cells) (c .ups) (c .downs) (c .horizon) (s .totals) (length (c .out))
+answerTo s c = forecastAnswer (c .road) (c .caps) (s .cells) (c .ups) (c .downs) (c .horizon) (s .totals) (length (c .out))
 
 abbrev pub outputOf : Site → Call → List ℕ
-outputOf s c = forecastCells (c .road) (s .cells) (c .ups) (c .downs) (c .horizon) (s .totals) (c .out)
+outputOf s c = forecastCells (c .road) (c .caps) (s .cells) (c .ups) (c .downs) (c .horizon) (s .totals) (c .out)
 
 -- the site fed with "the last one's cells and totals", next being the output at exit; "a refused call in the chain alters neither"
 abbrev pub fed : Site → List ℕ → ForecastAnswer → Site

@@ -16,8 +16,9 @@ use Rattle.forecast.specs.Forecast.{meaning}
 use Rattle.forecast.specs.Settle.{settleAnswer, settleOutput, meaning as settle-meaning}
 use Rattle.forecast.specs.Chain.{Call, Site, answerTo, afterCall}
 
--- a settling run of the chain: its horizon, its end pair, and what its output held before
+-- a settling run of the chain: its caps, its horizon, its end pair, and what its output held before
 pub record SettleCall : Type 0 where
+  pub caps : List ℕ
   pub horizon : ℕ
   pub up : ℕ
   pub down : ℕ
@@ -28,19 +29,21 @@ pub data AnyCall : Type 0 where
   forecast : Call → AnyCall
   settle : SettleCall → AnyCall
 
--- its horizon, ends and output pass their checks, on n cells of the road
+-- its horizon, ends, output and caps pass their checks, on n cells of the road
 pub record ForecastPasses (r : Road) (n : ℕ) (c : Call) : Type 0 where
   pub same-road : c .road ≡ r
   pub horizon-high : c .horizon ≤ horizonCeiling
   pub ups-long : length (c .ups) ≡ c .horizon
   pub downs-long : length (c .downs) ≡ c .horizon
   pub output-long : length (c .out) ≡ n
+  pub caps-long : length (c .caps) ≡ n + 1
   pub ups-below : Below (r .jam) (c .ups)
   pub downs-below : Below (r .jam) (c .downs)
 
 pub record SettlePasses (r : Road) (n : ℕ) (c : SettleCall) : Type 0 where
   pub horizon-high : c .horizon ≤ horizonCeiling
   pub output-long : length (c .out) ≡ n
+  pub caps-long : length (c .caps) ≡ n + 1
   pub up-below : c .up ≤ r .jam
   pub down-below : c .down ≤ r .jam
 
@@ -63,7 +66,7 @@ lifetime = 18446744073709
 
 -- what a settling run answers; the steps that it reports
 abbrev pub settleAnswerTo : Road → Site → SettleCall → SettleAnswer
-settleAnswerTo r s c = settleAnswer r (s .cells) (c .up) (c .down) (c .horizon) (length (c .out))
+settleAnswerTo r s c = settleAnswer r (c .caps) (s .cells) (c .up) (c .down) (c .horizon) (length (c .out))
 
 abbrev pub stepsReported : Road → Site → SettleCall → ℕ
 stepsReported r s c = settle-meaning (settleAnswerTo r s c) .steps
@@ -80,16 +83,16 @@ settled s next (S.Refused f) = s
 
 abbrev pub siteAfter : Road → Site → AnyCall → Site
 siteAfter r s (forecast c) = afterCall s c
-siteAfter r s (settle c) = settled s (settleOutput r (s .cells) (c .up) (c .down) (c .horizon) (c .out)) (settleAnswerTo r s c)
+siteAfter r s (settle c) = settled s (settleOutput r (c .caps) (s .cells) (c .up) (c .down) (c .horizon) (c .out)) (settleAnswerTo r s c)
 
 -- the units over face 0 and over face n in a call: those that a forecast's answer reports; those that the steps of a settling run move, each step with its end pair
 abbrev pub enteredIn : Road → Site → AnyCall → ℕ
 enteredIn r s (forecast c) = meaning (answerTo s c) .entered
-enteredIn r s (settle c) = entered r (replicate (stepsReported r s c) (c .up)) (replicate (stepsReported r s c) (c .down)) (s .cells)
+enteredIn r s (settle c) = entered r (c .caps) (replicate (stepsReported r s c) (c .up)) (replicate (stepsReported r s c) (c .down)) (s .cells)
 
 abbrev pub leftIn : Road → Site → AnyCall → ℕ
 leftIn r s (forecast c) = meaning (answerTo s c) .left
-leftIn r s (settle c) = left r (replicate (stepsReported r s c) (c .up)) (replicate (stepsReported r s c) (c .down)) (s .cells)
+leftIn r s (settle c) = left r (c .caps) (replicate (stepsReported r s c) (c .up)) (replicate (stepsReported r s c) (c .down)) (s .cells)
 
 -- the cells after the last call
 unfoldable pub lastCells : Road → Site → List AnyCall → List ℕ

@@ -2,7 +2,7 @@
 use mathlib.Core.Path.{_≡_}
 use mathlib.Core.Bool.{Bool, false}
 use mathlib.Core.List.{List, [], _∷_, _++_}
-use Prim.Native.Nat.{ℕ, _≤_}
+use Prim.Native.Nat.{ℕ, _+_, _≤_}
 use lib.Dec.{eqb}
 use lib.ListN.{length, replicate}
 use Rattle.choice.specs.Choice.{pick}
@@ -11,7 +11,7 @@ use Rattle.road.specs.Ceilings.{cellsCeiling, horizonCeiling}
 use Rattle.road.specs.Judgement.{roadRows, Accepted}
 use Rattle.road.specs.declared.Road.{Road}
 use Rattle.road.specs.declared.refusal.Refusal.{Refusal}
-use Rattle.checks.specs.Rows.{cellsRow, horizonRow, outputRow, pairRows}
+use Rattle.checks.specs.Rows.{cellsRow, horizonRow, outputRow, capsRow, pairRows}
 use Rattle.checks.specs.Places.{Placed}
 use Rattle.scheme.specs.Sums.{Below}
 use Rattle.scheme.specs.Rounded.{entered, left}
@@ -21,35 +21,35 @@ use Rattle.scheme.specs.declared.settling.Settled.{Settled}
 use Rattle.forecast.specs.declared.settling.SettleAnswer.{SettleAnswer}
 use Rattle.forecast.specs.declared.settling.SettleAnswer.the-variants.{Done, Refused}
 
--- rows 5, 6 and 8
-abbrev pub settleListRows : ℕ → ℕ → ℕ → List Row
-settleListRows cells t out = cellsRow cells ∷ horizonRow t ∷ outputRow cells out ∷ []
+-- rows 5, 6, 8 and 20, over the numbers of caps and of cells, the horizon and the output's length
+abbrev pub settleListRows : ℕ → ℕ → ℕ → ℕ → List Row
+settleListRows caps cells t out = cellsRow cells ∷ horizonRow t ∷ outputRow cells out ∷ capsRow cells caps ∷ []
 
--- rows 1 to 6 and 8
-abbrev pub settleShapeRows : Road → ℕ → ℕ → ℕ → List Row
-settleShapeRows r cells t out = roadRows r ++ settleListRows cells t out
+-- rows 1 to 6, 8 and 20
+abbrev pub settleShapeRows : Road → ℕ → ℕ → ℕ → ℕ → List Row
+settleShapeRows r caps cells t out = roadRows r ++ settleListRows caps cells t out
 
-unfoldable pub settleShapeRefusal : Road → ℕ → ℕ → ℕ → Refusal
-settleShapeRefusal r cells t out = judge (settleShapeRows r cells t out)
+unfoldable pub settleShapeRefusal : Road → ℕ → ℕ → ℕ → ℕ → Refusal
+settleShapeRefusal r caps cells t out = judge (settleShapeRows r caps cells t out)
 
--- "settling 1–6 and 8–11"
-abbrev pub settleRows : Road → List ℕ → ℕ → ℕ → ℕ → ℕ → List Row
-settleRows r cells up down t out = settleShapeRows r (length cells) t out ++ pairRows r cells up down
+-- "settling 1–6 and 8–11", with 20 "after 8 and before 9" (document 02, E7)
+abbrev pub settleRows : Road → List ℕ → List ℕ → ℕ → ℕ → ℕ → ℕ → List Row
+settleRows r caps cells up down t out = settleShapeRows r (length caps) (length cells) t out ++ pairRows r cells up down
 
-unfoldable pub settleRefusal : Road → List ℕ → ℕ → ℕ → ℕ → ℕ → Refusal
-settleRefusal r cells up down t out = judge (settleRows r cells up down t out)
+unfoldable pub settleRefusal : Road → List ℕ → List ℕ → ℕ → ℕ → ℕ → ℕ → Refusal
+settleRefusal r caps cells up down t out = judge (settleRows r caps cells up down t out)
 
 -- the answer: settled or unsettled with the steps made, or the refusal
-unfoldable pub settleAnswer : Road → List ℕ → ℕ → ℕ → ℕ → ℕ → SettleAnswer
-settleAnswer r cells up down t out =
-    pick (eqb (settleRefusal r cells up down t out .number) 0)
-    (Done (record { settled = settles r up down t cells; steps = settleSteps r up down t cells }))
-    (Refused (settleRefusal r cells up down t out))
+unfoldable pub settleAnswer : Road → List ℕ → List ℕ → ℕ → ℕ → ℕ → ℕ → SettleAnswer
+settleAnswer r caps cells up down t out =
+    pick (eqb (settleRefusal r caps cells up down t out .number) 0)
+    (Done (record { settled = settles r caps up down t cells; steps = settleSteps r caps up down t cells }))
+    (Refused (settleRefusal r caps cells up down t out))
 
 -- the output: the state after those steps, or its former contents
-unfoldable pub settleOutput : Road → List ℕ → ℕ → ℕ → ℕ → List ℕ → List ℕ
-settleOutput r cells up down t out =
-    pick (eqb (settleRefusal r cells up down t (length out) .number) 0) (settleCells r up down t cells) out
+unfoldable pub settleOutput : Road → List ℕ → List ℕ → ℕ → ℕ → ℕ → List ℕ → List ℕ
+settleOutput r caps cells up down t out =
+    pick (eqb (settleRefusal r caps cells up down t (length out) .number) 0) (settleCells r caps up down t cells) out
 
 -- the paper's numbers of an answer: number (0 when accepted), place, settled or not, steps
 pub record Meaning : Type 0 where
@@ -63,48 +63,49 @@ meaning (Done s) = record { number = 0; place = 0; settled = s .settled; steps =
 meaning (Refused f) = record { number = f .number; place = f .place; settled = false; steps = 0 }
 
 -- the numbers that document 01 asks for
-unfoldable pub settleMeaning : Road → List ℕ → ℕ → ℕ → ℕ → ℕ → Meaning
-settleMeaning r cells up down t out = record {
-  number = settleRefusal r cells up down t out .number;
-  place = settleRefusal r cells up down t out .place;
-  settled = pick (eqb (settleRefusal r cells up down t out .number) 0) (settles r up down t cells) false;
-  steps = pick (eqb (settleRefusal r cells up down t out .number) 0) (settleSteps r up down t cells) 0;
+unfoldable pub settleMeaning : Road → List ℕ → List ℕ → ℕ → ℕ → ℕ → ℕ → Meaning
+settleMeaning r caps cells up down t out = record {
+  number = settleRefusal r caps cells up down t out .number;
+  place = settleRefusal r caps cells up down t out .place;
+  settled = pick (eqb (settleRefusal r caps cells up down t out .number) 0) (settles r caps up down t cells) false;
+  steps = pick (eqb (settleRefusal r caps cells up down t out .number) 0) (settleSteps r caps up down t cells) 0;
 }
 
 -- what an input that no row refuses is
-pub record SettleChecked (r : Road) (cells : List ℕ) (up down t out : ℕ) : Type 0 where
+pub record SettleChecked (r : Road) (caps cells : List ℕ) (up down t out : ℕ) : Type 0 where
   pub accepted : Accepted r
   pub cells-low : 1 ≤ length cells
   pub cells-high : length cells ≤ cellsCeiling
   pub horizon-high : t ≤ horizonCeiling
   pub output-long : out ≡ length cells
+  pub caps-long : length caps ≡ length cells + 1
   pub cells-below : Below (r .jam) cells
   pub up-below : up ≤ r .jam
   pub down-below : down ≤ r .jam
 
 -- demand 1 of a refusal, of the settling run's rows; the one end pair stands at place 0
-abbrev pub SettleJudged : Road → List ℕ → ℕ → ℕ → ℕ → ℕ → Refusal → Type 0
-SettleJudged r cells up down t out f =
-    Judged (settleRows r cells up down t out) (SettleChecked r cells up down t out) (Placed r cells (up ∷ []) (down ∷ [])) f
+abbrev pub SettleJudged : Road → List ℕ → List ℕ → ℕ → ℕ → ℕ → ℕ → Refusal → Type 0
+SettleJudged r caps cells up down t out f =
+    Judged (settleRows r caps cells up down t out) (SettleChecked r caps cells up down t out) (Placed r cells (up ∷ []) (down ∷ [])) f
 
 -- k steps of one end pair, told face by face: from the cells to the state handed back, with the units over face 0 and face n
-abbrev pub PairByFaces : Road → ℕ → ℕ → ℕ → List ℕ → List ℕ → Type 0
-PairByFaces r up down k cells next =
-    RunByFaces r (replicate k up) (replicate k down) cells next
-    (entered r (replicate k up) (replicate k down) cells) (left r (replicate k up) (replicate k down) cells)
+abbrev pub PairByFaces : Road → List ℕ → ℕ → ℕ → ℕ → List ℕ → List ℕ → Type 0
+PairByFaces r caps up down k cells next =
+    RunByFaces r caps (replicate k up) (replicate k down) cells next
+    (entered r caps (replicate k up) (replicate k down) cells) (left r caps (replicate k up) (replicate k down) cells)
 
 -- what an accepted run reports and hands back: the least k below T such that step k+1 is still, or T; the state after those steps, in range
-pub record Settlement (r : Road) (cells : List ℕ) (up down t : ℕ) (next : List ℕ) (s : Settled) : Type 0 where
-  pub least : LeastStill r up down t cells (s .settled) (s .steps)
-  pub state : next ≡ after r up down (s .steps) cells
-  pub by-faces : PairByFaces r up down (s .steps) cells next
+pub record Settlement (r : Road) (caps cells : List ℕ) (up down t : ℕ) (next : List ℕ) (s : Settled) : Type 0 where
+  pub least : LeastStill r caps up down t cells (s .settled) (s .steps)
+  pub state : next ≡ after r caps up down (s .steps) cells
+  pub by-faces : PairByFaces r caps up down (s .steps) cells next
   pub long : length next ≡ length cells
   pub within : Below (r .jam) next
 
 -- what the call promises: a the answer, out what the output held at entry, next what it holds at exit
-pub record Settles (r : Road) (cells : List ℕ) (up down t : ℕ) (out next : List ℕ) (a : SettleAnswer) : Type 0 where
-  pub answer : a ≡ settleAnswer r cells up down t (length out)
-  pub means : meaning a ≡ settleMeaning r cells up down t (length out)
-  pub output : next ≡ settleOutput r cells up down t out
-  pub judged : SettleJudged r cells up down t (length out) (refused (meaning a .number) (meaning a .place))
-  pub settlement : (s : Settled) → a ≡ Done s → Settlement r cells up down t next s
+pub record Settles (r : Road) (caps cells : List ℕ) (up down t : ℕ) (out next : List ℕ) (a : SettleAnswer) : Type 0 where
+  pub answer : a ≡ settleAnswer r caps cells up down t (length out)
+  pub means : meaning a ≡ settleMeaning r caps cells up down t (length out)
+  pub output : next ≡ settleOutput r caps cells up down t out
+  pub judged : SettleJudged r caps cells up down t (length out) (refused (meaning a .number) (meaning a .place))
+  pub settlement : (s : Settled) → a ≡ Done s → Settlement r caps cells up down t next s

@@ -28,42 +28,47 @@ pub enum ForecastAnswer {
     Refused(Refusal),
 }
 
-// Internal: rows 1 to 8, of the road and of the lists' lengths.
+// Internal: rows 1 to 8 and 20, of the road and of the lists' lengths.
 fn judged_shape(
     road: Road,
+    caps: usize,
     cells: usize,
     ups: usize,
     downs: usize,
     horizon: u32,
     out: usize,
 ) -> Refusal
-    ensures { λ f. ⌜ f ≡ shapeRefusal road cells ups downs horizon out ⌝ }
+    ensures { λ f. ⌜ f ≡ shapeRefusal road caps cells ups downs horizon out ⌝ }
 {
     let bad_cells = checks::bad_cells(cells);
     let bad_horizon = checks::bad_horizon(horizon);
     let bad_ends = checks::bad_ends(horizon, ups, downs);
     let bad_output = checks::bad_output(cells, out);
+    let bad_caps = checks::bad_caps(cells, caps);
     road::judged(road)
         .or_if(bad_cells, 5, 0)
         .or_if(bad_horizon, 6, 0)
         .or_if(bad_ends, 7, 0)
         .or_if(bad_output, 8, 0)
+        .or_if(bad_caps, 20, 0)
 }
 
-// Internal: rows 1 to 11, all that can be judged before the run. The values are judged only once the lists are known to be
-// short, so that a place always fits its 32 bits.
+// Internal: rows 1 to 8, 20 and 9 to 11, all that can be judged before the run. The values are judged only once the lists
+// are known to be short, so that a place always fits its 32 bits.
 fn judged(
     road: Road,
+    caps: &[u32],
     cells: &[u32],
     upstream: &[u32],
     downstream: &[u32],
     horizon: u32,
     out: usize,
 ) -> Refusal
-    ensures { λ f. ⌜ f ≡ inputRefusal road (now (cells .entry)) (now (upstream .entry)) (now (downstream .entry)) horizon out ⌝ }
+    ensures { λ f. ⌜ f ≡ inputRefusal road (now (caps .entry)) (now (cells .entry)) (now (upstream .entry)) (now (downstream .entry)) horizon out ⌝ }
 {
     let shape = judged_shape(
         road,
+        caps.len(),
         cells.len(),
         upstream.len(),
         downstream.len(),
@@ -103,18 +108,26 @@ fn carried(totals: Totals, own: Totals) -> Record
 }
 
 // Internal: the list then holds the cells after the last step.
-fn ran(road: Road, cells: &[u32], upstream: &[u32], downstream: &[u32], list: &mut [u32]) -> Totals
-    requires { ⌜ InputChecked road (now cells) (now upstream) (now downstream) (length (now upstream)) (length (now list)) ⌝ }
-    ensures { λ t. ⌜ Ran road (now (upstream .entry)) (now (downstream .entry)) (now (cells .entry)) (now (list .exit)) t ⌝ }
+fn ran(
+    road: Road,
+    caps: &[u32],
+    cells: &[u32],
+    upstream: &[u32],
+    downstream: &[u32],
+    list: &mut [u32],
+) -> Totals
+    requires { ⌜ InputChecked road (now caps) (now cells) (now upstream) (now downstream) (length (now upstream)) (length (now list)) ⌝ }
+    ensures { λ t. ⌜ Ran road (now (caps .entry)) (now (upstream .entry)) (now (downstream .entry)) (now (cells .entry)) (now (list .exit)) t ⌝ }
 {
     copy(cells, list);
-    scheme::run(Pace::of(road), list, upstream, downstream)
+    scheme::run(Pace::of(road), caps, list, upstream, downstream)
 }
 
 // Internal: the forecast where a total may pass the largest. Its own units are known after the run alone, and row 19 leaves
 // the output as it was: the run is made in a working list.
 fn ran_aside(
     road: Road,
+    caps: &[u32],
     cells: &[u32],
     upstream: &[u32],
     downstream: &[u32],
@@ -122,10 +135,10 @@ fn ran_aside(
     work: &mut [u32],
     out: &mut [u32],
 ) -> ForecastAnswer
-    requires { ⌜ InputChecked road (now cells) (now upstream) (now downstream) (length (now upstream)) (length (now out)) × (length (now work) ≡ length (now cells)) ⌝ }
-    ensures { λ a. ⌜ Forecasts road (now (cells .entry)) (now (upstream .entry)) (now (downstream .entry)) (length (now (upstream .entry))) totals (now (out .entry)) (now (out .exit)) a ⌝ }
+    requires { ⌜ InputChecked road (now caps) (now cells) (now upstream) (now downstream) (length (now upstream)) (length (now out)) × (length (now work) ≡ length (now cells)) ⌝ }
+    ensures { λ a. ⌜ Forecasts road (now (caps .entry)) (now (cells .entry)) (now (upstream .entry)) (now (downstream .entry)) (length (now (upstream .entry))) totals (now (out .entry)) (now (out .exit)) a ⌝ }
 {
-    let own = ran(road, cells, upstream, downstream, work);
+    let own = ran(road, caps, cells, upstream, downstream, work);
     let entered_passes = would_pass(totals.entered, own.entered);
     let left_passes = would_pass(totals.left, own.left);
     if either(entered_passes, left_passes) {
@@ -138,20 +151,22 @@ fn ran_aside(
     ForecastAnswer::Done(carried(totals, own))
 }
 
-// The output holds the cells after the horizon's steps, pair t of the two end lists serving step t+1; the answer has the
-// units that entered and left in them, and the totals so far increased by these. Refused, the output keeps what it held.
+// The output holds the cells after the horizon's steps, pair t of the two end lists serving step t+1 and no face moving
+// more than its cap in a step, face 0's first; the answer has the units that entered and left in them, and the totals so
+// far increased by these. Refused, the output keeps what it held.
 pub fn forecast(
     road: Road,
     cells: &[u32],
     upstream: &[u32],
     downstream: &[u32],
     horizon: u32,
+    caps: &[u32],
     totals: Totals,
     out: &mut [u32],
 ) -> ForecastAnswer
-    ensures { λ a. ⌜ Forecasts road (now (cells .entry)) (now (upstream .entry)) (now (downstream .entry)) horizon totals (now (out .entry)) (now (out .exit)) a ⌝ }
+    ensures { λ a. ⌜ Forecasts road (now (caps .entry)) (now (cells .entry)) (now (upstream .entry)) (now (downstream .entry)) horizon totals (now (out .entry)) (now (out .exit)) a ⌝ }
 {
-    let refusal = judged(road, cells, upstream, downstream, horizon, out.len());
+    let refusal = judged(road, caps, cells, upstream, downstream, horizon, out.len());
     if refusal.number != 0 {
         return ForecastAnswer::Refused(refusal);
     }
@@ -165,6 +180,7 @@ pub fn forecast(
         let mut work = [road.jam; CELLS];
         return ran_aside(
             road,
+            caps,
             cells,
             upstream,
             downstream,
@@ -173,6 +189,6 @@ pub fn forecast(
             out,
         );
     }
-    let own = ran(road, cells, upstream, downstream, out);
+    let own = ran(road, caps, cells, upstream, downstream, out);
     ForecastAnswer::Done(carried(totals, own))
 }

@@ -9,6 +9,7 @@ use printing::lists;
 use printing::page;
 use printing::page::Page;
 use request::buffers;
+use request::caps;
 use request::keys;
 use request::keys::is_given;
 use request::numbers;
@@ -18,11 +19,13 @@ use request::refusals::Input;
 use request::status;
 use road::Road;
 
-// Which state is read: by which action, whether a word on it is wanted, and after how many steps of a forecast.
+// Which state is read: by which action, whether a word on it is wanted, and after how many steps of a forecast, with how many
+// caps that are not open.
 struct State {
     action: u8,
     told: bool,
     steps: u32,
+    narrowed: usize,
 }
 
 fn wide(x: u32) -> u64 {
@@ -61,10 +64,11 @@ fn line(page: &mut Page, action: u8, c: Counts, letters: &[u8], codes: &[u8]) {
     page::put(page, b'\n');
 }
 
-// Which state it is, where a forecast stands beside it.
-fn told(page: &mut Page, s: State) {
+// Which state it is, where a forecast stands beside it, and with which caps that forecast was made.
+fn told(page: &mut Page, s: State, faces: usize) {
     if s.action == keys::READLAST {
         say(page, forms::AFTER_STEPS, s.steps as u64, 0);
+        caps::tell(page, s.narrowed, faces);
     } else if s.told {
         say(page, forms::AT_THE_START, 0, 0);
     }
@@ -73,7 +77,7 @@ fn told(page: &mut Page, s: State) {
 fn report(page: &mut Page, s: State, c: Counts, letters: &[u8], codes: &[u8]) {
     keys::name(page, s.action);
     say(page, forms::OF_CELLS, codes.len() as u64, 0);
-    told(page, s);
+    told(page, s, letters.len());
     say(page, forms::COUNTS, 0, 0);
     counts(page, c);
     say(page, forms::QUEUED, c.queued as u64, 0);
@@ -146,6 +150,7 @@ pub fn act(page: &mut Page, lines: bool, text: &[u8]) -> u8 {
         action: keys::READ,
         told: is_forecast(text),
         steps: 0,
+        narrowed: 0,
     };
     read(page, lines, s, text, &cells[..n])
 }
@@ -158,22 +163,24 @@ fn forecast_and_read(
     cells: &[u32],
     ups: &[u32],
     downs: &[u32],
+    caps: &[u32],
     out: &mut [u32],
 ) -> u8 {
     let steps = numbers::one(text, keys::HORIZON);
     let road = numbers::road(text);
     let totals = numbers::totals(text);
-    match forecast::forecast(road, cells, ups, downs, steps, totals, out) {
+    match forecast::forecast(road, cells, ups, downs, steps, caps, totals, out) {
         ForecastAnswer::Done(_) => {
             let s = State {
                 action: keys::READLAST,
                 told: true,
                 steps,
+                narrowed: caps::narrowed(caps),
             };
             read(page, lines, s, text, out)
         }
         ForecastAnswer::Refused(f) => {
-            let given = Input::of_forecast(cells.len(), ups.len(), downs.len(), steps);
+            let given = Input::of_forecast(cells.len(), ups.len(), downs.len(), steps, caps.len());
             refusals::print(page, lines, keys::READLAST, f, given);
             status::REFUSED
         }
@@ -185,10 +192,12 @@ pub fn act_on_last(page: &mut Page, lines: bool, text: &[u8]) -> u8 {
     let mut cells = buffers::cells();
     let mut ups = buffers::ends();
     let mut downs = buffers::ends();
+    let mut caps = buffers::caps();
     let mut out = buffers::cells();
     let n = numbers::list(text, keys::CELLS, &mut cells);
     let u = numbers::list(text, keys::UPSTREAM, &mut ups);
     let d = numbers::list(text, keys::DOWNSTREAM, &mut downs);
+    let c = caps::list(text, n, &mut caps);
     let m = numbers::within(n, &out);
     forecast_and_read(
         page,
@@ -197,6 +206,7 @@ pub fn act_on_last(page: &mut Page, lines: bool, text: &[u8]) -> u8 {
         &cells[..n],
         &ups[..u],
         &downs[..d],
+        &caps[..c],
         &mut out[..m],
     )
 }

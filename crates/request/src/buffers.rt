@@ -13,7 +13,7 @@ const CELLS: usize = Road::CELLS as usize + 1;
 
 const ENDS: usize = Road::HORIZON as usize + 1;
 
-const WORD: usize = Road::CELLS as usize + 2;
+const FACES: usize = Road::CELLS as usize + 2;
 
 const SHADES: usize = Road::CELLS as usize * ENDS;
 
@@ -48,10 +48,17 @@ pub fn ends() -> [u32; ENDS]
 }
 
 // A word's letters, or a list of modes.
-pub fn codes() -> [u8; WORD]
+pub fn codes() -> [u8; FACES]
     ensures { λ r. ⌜ cellsCeiling + 2 ≡ length r ⌝ }
 {
-    [0u8; WORD]
+    [0u8; FACES]
+}
+
+// The caps of the faces.
+pub fn caps() -> [u32; FACES]
+    ensures { λ r. ⌜ cellsCeiling + 2 ≡ length r ⌝ }
+{
+    [0u32; FACES]
 }
 
 // The numerators of rows.

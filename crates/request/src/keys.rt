@@ -52,6 +52,8 @@ pub const NEAREST: u8 = 23;
 
 pub const TOTALS: u8 = 24;
 
+pub const CAPS: u8 = 25;
+
 // What stands where no key does.
 pub const NONE: u8 = 255;
 

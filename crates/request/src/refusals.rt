@@ -12,35 +12,49 @@ pub struct Input {
     pub upstream: usize,
     pub downstream: usize,
     pub horizon: u32,
+    pub caps: usize,
     pub by_step: bool,
 }
 
 impl Input {
     // A forecast's input.
-    pub fn of_forecast(cells: usize, upstream: usize, downstream: usize, horizon: u32) -> Input {
+    pub fn of_forecast(
+        cells: usize,
+        upstream: usize,
+        downstream: usize,
+        horizon: u32,
+        caps: usize,
+    ) -> Input {
         Input {
             cells,
             upstream,
             downstream,
             horizon,
+            caps,
             by_step: true,
         }
     }
 
-    // An input of so many cells with one pair of ends, or with none.
-    pub fn of_cells(cells: usize) -> Input {
+    // A settling run's input.
+    pub fn of_settling(cells: usize, caps: usize) -> Input {
         Input {
             cells,
             upstream: 0,
             downstream: 0,
             horizon: 0,
+            caps,
             by_step: false,
         }
+    }
+
+    // An input of so many cells with one pair of ends, or with none, and without caps.
+    pub fn of_cells(cells: usize) -> Input {
+        Input::of_settling(cells, 0)
     }
 }
 
 // The meaning of each number, in the line of that number; behind them what is said in the place or in front of one.
-const MEANINGS: [u8; 1184] = *b"
+const MEANINGS: [u8; 1275] = *b"
 the divisor D is not from 1 to %
 the speed p or q is not from 1 to D
 the jam density J is not from 2 to %, or the critical density C not from 1 to J - 1
@@ -60,10 +74,13 @@ a station's number is not a number, below 0 or infinite, or a speed beside a flo
 a station's lone speed times D, rounded, is not below p: no single density
 a station's estimate is not from 0 to the jam density
 a total since commissioning would pass 18446744073709551615
+the cap list
 the upstream list
 the downstream list
  has more than % ends, the horizon is % step~
  has % end~, the horizon is % step~
+ has more than % caps, the road has % faces
+ has % cap~, the road has % faces
  of step % (from 0) is above the jam density
  of pair is above the jam density
 the word does not have one letter more than there are cells
@@ -76,25 +93,34 @@ refused % %
 
 const ESTIMATE: usize = 14;
 
-const UPSTREAM: usize = 20;
+const CAPS: usize = 20;
 
-const DOWNSTREAM: usize = 21;
+const UPSTREAM: usize = 21;
 
-const MORE_ENDS: usize = 22;
+const DOWNSTREAM: usize = 22;
 
-const OTHER_ENDS: usize = 23;
+const MORE_ENDS: usize = 23;
 
-const OF_STEP: usize = 24;
+const OTHER_ENDS: usize = 24;
 
-const OF_PAIR: usize = 25;
+const MORE_CAPS: usize = 25;
 
-const OTHER_LENGTH: usize = 26;
+const OTHER_CAPS: usize = 26;
 
-const LEFT: usize = 27;
+const OF_STEP: usize = 27;
 
-const LINE: usize = 30;
+const OF_PAIR: usize = 28;
 
-const REFUSED: usize = 31;
+const OTHER_LENGTH: usize = 29;
+
+const LEFT: usize = 30;
+
+const LINE: usize = 33;
+
+const REFUSED: usize = 34;
+
+// The most faces.
+const MOST_FACES: usize = Road::CELLS as usize + 1;
 
 fn say(page: &mut Page, form: usize, a: u64, b: u64) {
     say::form(page, &MEANINGS, form, a, b, 0, 0);
@@ -122,6 +148,26 @@ fn of_lengths(page: &mut Page, input: Input) {
     }
     if input.downstream != horizon {
         of_list(page, DOWNSTREAM, input.downstream, input.horizon);
+    }
+}
+
+// The faces of so many cells.
+fn faces(cells: usize) -> usize {
+    if cells < MOST_FACES {
+        cells + 1
+    } else {
+        MOST_FACES
+    }
+}
+
+// A list of caps that has not one for each face. One that is too long was clipped, to one more than the most faces.
+fn of_caps(page: &mut Page, input: Input) {
+    let faces = faces(input.cells) as u64;
+    say(page, CAPS, 0, 0);
+    if MOST_FACES < input.caps {
+        say(page, MORE_CAPS, MOST_FACES as u64, faces);
+    } else {
+        say(page, OTHER_CAPS, input.caps as u64, faces);
     }
 }
 
@@ -175,6 +221,7 @@ fn meaning(page: &mut Page, f: Refusal, input: Input) {
         10 | 11 => of_end(page, f, input.by_step),
         12 => of_word(page, f, input.cells),
         14 => of_estimate(page, f.place),
+        20 => of_caps(page, input),
         _ => say(page, number as usize, told(f), 0),
     }
 }

@@ -1,4 +1,4 @@
--- The refusal table as a form: rows of a condition, a number and a place. The first row that holds is returned, which has the lowest number that applies where the numbers rise.
+-- The refusal table as a form: rows of a condition, a number and a place, in the call's order of checks. The first row that holds is returned, which has the lowest number that applies where the numbers rise.
 use mathlib.Core.Path.{_≡_}
 use mathlib.Core.Bool.{Bool, true, false, not}
 use mathlib.Core.List.{List, [], _∷_}

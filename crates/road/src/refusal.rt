@@ -1,5 +1,5 @@
-// The refusal, and the rule of its table: the first row that holds is returned (document 01, "Where each refusal is
-// made").
+// The refusal, and the rule of its table: the rows stand in the call's order of checks, and the first that holds is
+// returned (document 01, "Where each refusal is made"; document 02, E7).
 ghost use mathlib.Core.Path.{_≡_};
 ghost use Rattle.road.specs.Table.{passed, orIf};
 

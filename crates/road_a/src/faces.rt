@@ -3,6 +3,7 @@ use super::forms;
 use forecast::ForecastAnswer;
 use printing::page;
 use printing::page::Page;
+use scheme::OPEN;
 use scheme::Totals;
 use worked::print;
 use worked::roads;
@@ -45,6 +46,7 @@ fn show(page: &mut Page, road: u8, line: usize, a: u32, b: u32) {
         &[a],
         &[0],
         1,
+        &[OPEN, OPEN],
         Totals {
             entered: 0,
             left: 0,

@@ -4,6 +4,7 @@ use forecast::ForecastAnswer;
 use printing::page;
 use printing::page::Page;
 use road::Road;
+use scheme::OPEN;
 use scheme::Totals;
 use worked::few;
 use worked::few::CELLS;
@@ -15,23 +16,19 @@ use worked::print;
 use worked::roads;
 use worked::roads::A;
 
-// One forecast and what it left in the output.
-pub fn show(
+// One forecast, behind its name, and what it left in the output.
+pub fn told(
     page: &mut Page,
-    line: usize,
     road: Road,
     cells: &[u32],
     ups: &[u32],
     downs: &[u32],
     horizon: u32,
+    caps: &[u32],
+    totals: Totals,
     out: &mut [u32],
 ) {
-    forms::say(page, line, 0, 0);
-    let none = Totals {
-        entered: 0,
-        left: 0,
-    };
-    match forecast::forecast(road, cells, ups, downs, horizon, none, out) {
+    match forecast::forecast(road, cells, ups, downs, horizon, caps, totals, out) {
         ForecastAnswer::Done(d) => {
             forms::say(page, forms::TOTALS, d.own.entered, d.own.left);
         }
@@ -42,6 +39,26 @@ pub fn show(
     forms::say(page, forms::OUTPUT, 0, 0);
     print::cells(page, out);
     page::put(page, b'\n');
+}
+
+// The same with its name, where nothing was counted before.
+pub fn show(
+    page: &mut Page,
+    line: usize,
+    road: Road,
+    cells: &[u32],
+    ups: &[u32],
+    downs: &[u32],
+    horizon: u32,
+    caps: &[u32],
+    out: &mut [u32],
+) {
+    forms::say(page, line, 0, 0);
+    let none = Totals {
+        entered: 0,
+        left: 0,
+    };
+    told(page, road, cells, ups, downs, horizon, caps, none, out);
 }
 
 // A road, cells, upstream and downstream ends, the steps, and the places of the output.
@@ -68,7 +85,7 @@ const CASES: [Case; COUNT] = [
     Case(A, CELLS, few::FULL_FULL, few::ABOVE_ABOVE, 2, 3),
 ];
 
-// A forecast of short lists, with an output of 7s.
+// A forecast of short lists, all faces open, with an output of 7s.
 fn short(
     page: &mut Page,
     line: usize,
@@ -82,10 +99,12 @@ fn short(
     let xs = few::list(cells);
     let us = few::list(ups);
     let ds = few::list(downs);
+    let open = [OPEN; 4];
     let mut out = [7u32; 3];
     let n = few::count(cells);
     let u = few::count(ups);
     let d = few::count(downs);
+    let faces = n + 1;
     if places <= 3 {
         show(
             page,
@@ -95,6 +114,7 @@ fn short(
             &us[..u],
             &ds[..d],
             t,
+            &open[..faces],
             &mut out[..places],
         );
     }
@@ -134,14 +154,16 @@ const EDGES: [Edge; EDGE_COUNT] = [
     Edge(A, 300, 1000, 0, 1, 4097),
 ];
 
-// A forecast of n cells of one density, with ends of one density each, over t steps.
+// A forecast of n cells of one density, with ends of one density each and all faces open, over t steps.
 fn long(page: &mut Page, line: usize, road: u8, cell: u32, up: u32, down: u32, n: usize, t: usize) {
     let cells = lists::cells(cell);
     let ups = lists::ends(up);
     let downs = lists::ends(down);
+    let open = lists::caps(OPEN);
     let mut out = lists::cells(7);
     if n <= lists::CELLS {
         if t <= lists::ENDS {
+            let faces = n + 1;
             show(
                 page,
                 line,
@@ -150,6 +172,7 @@ fn long(page: &mut Page, line: usize, road: u8, cell: u32, up: u32, down: u32, n
                 &ups[..t],
                 &downs[..t],
                 t as u32,
+                &open[..faces],
                 &mut out[..n],
             );
         }

@@ -2,7 +2,7 @@
 use printing::page::Page;
 use printing::say;
 
-const FORMS: [u8; 1871] = *b"\
+const FORMS: [u8; 2081] = *b"\
 : entered %, left %
 , totals % %
 : moves %
@@ -78,6 +78,12 @@ settling one cell 101, ends 0, T 1
 256 cells 7 2 9 in turn between 1 and 0, T 1
 settling 256 cells 7 2 9 in turn between 1 and 0, T 1
 256 cells 7 2 9 in turn, total entered the largest
+roadworks on cells
+ between % and %, T %, caps
+settling the same
+both totals the largest, a cell above J and two caps
+both totals the largest, one cap for one cell
+both totals the largest, the last face closed
 ";
 
 // What follows a name.
@@ -131,7 +137,28 @@ pub const OTHER: usize = SAME + 1;
 
 pub const IN_PLACE: usize = OTHER + 1;
 
+pub const ROADWORKS: usize = IN_PLACE + 6;
+
+const CAPS: usize = ROADWORKS + 1;
+
+pub const SETTLING: usize = CAPS + 1;
+
+pub const FULL_CAPS: usize = SETTLING + 1;
+
 // A form, with the numbers that it asks for.
 pub fn say(page: &mut Page, line: usize, a: u64, b: u64) {
     say::form(page, &FORMS, line, a, b, 0, 0);
+}
+
+// What stands between the cells of a state and its caps.
+pub fn caps(page: &mut Page, up: u32, down: u32, horizon: u32) {
+    say::form(
+        page,
+        &FORMS,
+        CAPS,
+        up as u64,
+        down as u64,
+        horizon as u64,
+        0,
+    );
 }

@@ -4,17 +4,19 @@ use super::forecasts;
 use super::forms;
 use super::settlings;
 use super::totals::LARGEST;
-use forecast::ForecastAnswer;
 use printing::page;
 use printing::page::Page;
 use road::Road;
+use scheme::OPEN;
 use scheme::Totals;
-use worked::print;
 use worked::roads;
 use worked::roads::A;
 
 // As many cells as a road can have.
 const MOST: usize = Road::CELLS as usize;
+
+// Their faces.
+const FACES: usize = MOST + 1;
 
 // The cells 7, 2 and 9 of the forecasts' third case, over and over.
 fn in_turn() -> [u32; MOST] {
@@ -60,30 +62,35 @@ fn both(
     settling: usize,
     cells: &[u32],
     up: u32,
+    caps: &[u32],
     out: &mut [u32],
     other: &mut [u32],
 ) {
     let road = roads::road(A);
-    forecasts::show(page, line, road, cells, &[up], &[0], 1, out);
-    settlings::show(page, settling, road, cells, up, 0, 1, other);
+    forecasts::show(page, line, road, cells, &[up], &[0], 1, caps, out);
+    settlings::show(page, settling, road, cells, up, 0, 1, caps, other);
     compared(page, out, other);
 }
 
 // A forecast of the most cells with a total that has no room for a unit: its output, of 7s, is compared with 7s.
-fn full(page: &mut Page, line: usize, cells: &[u32]) {
+fn full(page: &mut Page, line: usize, cells: &[u32], caps: &[u32]) {
     forms::say(page, line, 0, 0);
     let totals = Totals {
         entered: LARGEST,
         left: 0,
     };
     let mut out = [7u32; MOST];
-    match forecast::forecast(roads::road(A), cells, &[1], &[0], 1, totals, &mut out) {
-        ForecastAnswer::Done(d) => forms::say(page, forms::TOTALS, d.own.entered, d.own.left),
-        ForecastAnswer::Refused(f) => print::refusal(page, f),
-    }
-    forms::say(page, forms::OUTPUT, 0, 0);
-    print::cells(page, &out);
-    page::put(page, b'\n');
+    forecasts::told(
+        page,
+        roads::road(A),
+        cells,
+        &[1],
+        &[0],
+        1,
+        caps,
+        totals,
+        &mut out,
+    );
     compared(page, &[7u32; MOST], &out);
 }
 
@@ -99,6 +106,7 @@ fn alternate(page: &mut Page) {
         &[0],
         &[0],
         1,
+        &[OPEN; 5],
         &mut out,
     );
 }
@@ -113,6 +121,7 @@ fn one(page: &mut Page) {
         forms::IN_PLACE + 2,
         &[101],
         0,
+        &[OPEN, OPEN],
         &mut out,
         &mut other,
     );
@@ -121,6 +130,7 @@ fn one(page: &mut Page) {
 // The most cells there can be, by both calls, and a refused forecast of them.
 fn most(page: &mut Page) {
     let cells = in_turn();
+    let open = [OPEN; FACES];
     let mut out = [7u32; MOST];
     let mut other = [7u32; MOST];
     both(
@@ -129,10 +139,11 @@ fn most(page: &mut Page) {
         forms::IN_PLACE + 4,
         &cells,
         1,
+        &open,
         &mut out,
         &mut other,
     );
-    full(page, forms::IN_PLACE + 5, &cells);
+    full(page, forms::IN_PLACE + 5, &cells, &open);
 }
 
 // Four cells, one cell, and the most.

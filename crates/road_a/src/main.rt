@@ -1,10 +1,11 @@
-// The worked cases of Level 1, run: roads, faces, forecasts, settling runs, totals, the step in its one list. One line a
-// case and a comparison, held to stdout.
+// The worked cases of Level 1, run: roads, faces, forecasts, settling runs, totals, the step in its one list, roadworks.
+// One line a case and a comparison, held to stdout.
 mod faces;
 mod forecasts;
 mod forms;
 mod in_place;
 mod roads;
+mod roadworks;
 mod settlings;
 mod totals;
 
@@ -21,5 +22,7 @@ fn main() {
     totals::cases(&mut page);
     totals::chain(&mut page);
     in_place::cases(&mut page);
+    roadworks::cases(&mut page);
+    roadworks::full_totals(&mut page);
     page::sent(&mut page);
 }

@@ -4,6 +4,7 @@ use forecast::SettleAnswer;
 use printing::page;
 use printing::page::Page;
 use road::Road;
+use scheme::OPEN;
 use worked::few;
 use worked::few::ONE_2;
 use worked::few::ONE_1000;
@@ -36,10 +37,14 @@ pub fn show(
     up: u32,
     down: u32,
     horizon: u32,
+    caps: &[u32],
     out: &mut [u32],
 ) {
     forms::say(page, line, 0, 0);
-    answered(page, forecast::settle(road, cells, up, down, horizon, out));
+    answered(
+        page,
+        forecast::settle(road, cells, up, down, horizon, caps, out),
+    );
     forms::say(page, forms::OUTPUT, 0, 0);
     print::cells(page, out);
     page::put(page, b'\n');
@@ -64,7 +69,7 @@ const CASES: [Case; COUNT] = [
     Case(A, few::FULL_FULL, 1000, 1001, 9, 2),
 ];
 
-// A settling run of a short list, with an output of 7s.
+// A settling run of a short list, all faces open, with an output of 7s.
 fn short(
     page: &mut Page,
     line: usize,
@@ -76,8 +81,10 @@ fn short(
     places: usize,
 ) {
     let xs = few::list(cells);
+    let open = [OPEN; 4];
     let mut out = [7u32; 3];
     let n = few::count(cells);
+    let faces = n + 1;
     if places <= 3 {
         show(
             page,
@@ -87,6 +94,7 @@ fn short(
             up,
             down,
             t,
+            &open[..faces],
             &mut out[..places],
         );
     }
@@ -111,11 +119,13 @@ pub fn cases(page: &mut Page) {
     }
 }
 
-// A settling run of n full cells of road A between empty ends.
+// A settling run of n full cells of road A between empty ends, all faces open.
 fn long(page: &mut Page, line: usize, n: usize, t: u32) {
     let cells = lists::cells(1000);
+    let open = lists::caps(OPEN);
     let mut out = lists::cells(7);
     if n <= lists::CELLS {
+        let faces = n + 1;
         show(
             page,
             line,
@@ -124,6 +134,7 @@ fn long(page: &mut Page, line: usize, n: usize, t: u32) {
             0,
             0,
             t,
+            &open[..faces],
             &mut out[..n],
         );
     }

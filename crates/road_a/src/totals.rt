@@ -5,11 +5,11 @@ use forecast::ForecastAnswer;
 use forecast::Record;
 use printing::page;
 use printing::page::Page;
+use scheme::OPEN;
 use scheme::Totals;
 use worked::few;
 use worked::few::EMPTY;
 use worked::few::NONE;
-use worked::few::ONE_101;
 use worked::print;
 use worked::roads;
 use worked::roads::A;
@@ -29,7 +29,16 @@ fn show(page: &mut Page, line: usize, ups: &[u32], downs: &[u32], horizon: u32, 
     forms::say(page, line, 0, 0);
     let mut out = [7u32; 1];
     let road = roads::road(A);
-    match forecast::forecast(road, &[101], ups, downs, horizon, totals, &mut out) {
+    match forecast::forecast(
+        road,
+        &[101],
+        ups,
+        downs,
+        horizon,
+        &[OPEN, OPEN],
+        totals,
+        &mut out,
+    ) {
         ForecastAnswer::Done(d) => counted(page, d),
         ForecastAnswer::Refused(f) => print::refusal(page, f),
     }
@@ -93,7 +102,16 @@ fn told(page: &mut Page, cells: &[u32]) {
 fn fed(page: &mut Page, cells: &mut [u32; 3], totals: Totals, up: u32, down: u32) -> Totals {
     forms::say(page, forms::CHAIN, up as u64, down as u64);
     let mut out = [7u32; 3];
-    match forecast::forecast(roads::road(A), cells, &[up], &[down], 1, totals, &mut out) {
+    match forecast::forecast(
+        roads::road(A),
+        cells,
+        &[up],
+        &[down],
+        1,
+        &[OPEN; 4],
+        totals,
+        &mut out,
+    ) {
         ForecastAnswer::Done(d) => {
             counted(page, d);
             cells[0] = out[0];

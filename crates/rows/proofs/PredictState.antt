@@ -10,7 +10,7 @@ use Rattle.scheme.specs.Word.{wordOf}
 use Rattle.rows.specs.Rows.{rowNumerators}
 use Rattle.rows.specs.Prediction.{PredictChecked, PredictState}
 use Rattle.scheme.proofs.ByFaces.{exact-step-by-faces}
-use Rattle.rows.proofs.Rows.{rows-exact, rows-near}
+use Rattle.rows.proofs.Rows.{row-uncapped, row-near, rows-open, rows-open-near}
 use Rattle.modes.proofs.ReadOff.{read-off}
 
 rows-length : (r : Road) (left down : ℕ) (word cells : List ℕ) → length word ≡ length cells + 1
@@ -30,9 +30,11 @@ module _ (r : Road) (cells : List ℕ) (up down : ℕ) (word : List ℕ) (out : 
         let own-rows : rows ≡ rowNumerators r up down (wordOf r up down cells) cells =
         written ∙ ap (λ (w : List ℕ). rowNumerators r up down w cells) q in
         record {
-          exact-step = exact-step-by-faces r (c .accepted) 1 up down cells;
-          exact = own-rows ∙ rows-exact r (c .accepted) up down cells (c .down-below) (c .cells-below);
-          near = λ k. rw own-rows (rows-near r (c .accepted) up down cells k (c .down-below) (c .cells-below));
+          exact = λ caps k h free. rw own-rows (row-uncapped r (c .accepted) up down cells (c .up-below) (c .down-below) (c .cells-below) caps k h free);
+          exact-step = λ caps. exact-step-by-faces r caps (c .accepted) 1 up down cells;
+          near = λ caps k h free. rw own-rows (row-near r (c .accepted) up down cells (c .up-below) (c .down-below) (c .cells-below) caps k h free);
+          plain = own-rows ∙ rows-open r (c .accepted) up down cells (c .up-below) (c .down-below) (c .cells-below);
+          plain-near = λ k. rw own-rows (rows-open-near r (c .accepted) up down cells (c .up-below) (c .down-below) (c .cells-below) k);
         };
     occurs =
         let long = c .word-long in

@@ -1,35 +1,46 @@
--- With the state's own letters a row is the exact step, and D times the rounded density differs from it by less than D.
+-- With the state's own letters a row is the exact step, where the caps leave its cell alone, and D times the rounded density differs from it by less than D.
 use mathlib.Core.Path.{_≡_, refl, ap, ap₂, sym, _∙_}
 use mathlib.Core.Bool.{false}
 use mathlib.Core.List.{List, [], _∷_, map}
 use Prim.Native.Nat.{ℕ, zero, suc, _+_, _-_, _*_, _≤_, _<_}
-use native.Mathlib.Nat.{zero-mul, one-mul, zero-add, add-zero, mul-sub, mul-le-mul-left}
+use native.Mathlib.Nat.{zero-mul, one-mul, zero-add, add-zero, mul-sub, mul-le-mul-left, min-eq-left}
+use native.Mathlib.Numerals.{add-one}
 use native.Mathlib.Omega.{arith}
 use lib.IntN.{ℤ, pos, _+ℤ_, _-ℤ_, negℤ, natAbs, +ℤ-idl, +ℤ-idr, +ℤ-assoc, +ℤ-comm, -ℤ-+ℤ-cancel}
-use lib.ListN.{getD, List·getD-map}
+use lib.ListN.{length, getD, List·getD-map}
+use lib.Seq.{ext-getD}
 use borrow.Author.Tests.{le-ltb}
 use Rattle.road.specs.Judgement.{Accepted}
 use Rattle.road.specs.declared.Road.{Road}
 use Rattle.flux.specs.Face.{numerator, letterW, letterL, letterD, letter}
-use Rattle.flux.proofs.Laws.{numerator-law, accepted-sound}
+use Rattle.flux.proofs.Laws.{numerator-law, capped-law, accepted-sound}
 use Rattle.flux.proofs.Letters.{one-letter, published}
 use Rattle.scheme.specs.Advance.{ahead, advance, entering, stepped}
 use Rattle.scheme.specs.Exact.{exactStep}
-use Rattle.scheme.specs.Rounded.{roundStep}
+use Rattle.scheme.specs.Rounded.{openCaps, roundStep}
+use Rattle.scheme.specs.ByFaces.{numeratorOver}
 use Rattle.scheme.specs.Sums.{Below}
 use Rattle.scheme.specs.Word.{wordOf}
 use Rattle.scheme.proofs.Ahead.{ahead-below}
-use Rattle.scheme.proofs.Laws.{whole, exactStep-one}
+use Rattle.scheme.proofs.Shape.{stepped-length}
+use Rattle.scheme.proofs.Faces.{same-cell}
+use Rattle.scheme.proofs.Laws.{exactStep-one}
+use Rattle.scheme.proofs.Open.{padded-below, open-exceeds}
 use Rattle.scheme.proofs.Promises.{round-near-cell}
 use Rattle.words.specs.Words.{illegalPair, offends}
 use Rattle.modes.specs.Modes.{modeOf}
 use Rattle.rows.specs.Rows.{leftFlow, rightFlow, terms, dot, rowValue, rowNumerators}
+use Rattle.rows.specs.Prediction.{Uncapped}
 use Rattle.words.proofs.Legal.{neighbours}
 use Rattle.rows.proofs.Integers.{pos-minus, natAbs-minus}
 use Rattle.rows.proofs.Table.{row-rule}
 
 -- columns whose multiplier is 0 or 1
 ruleset columns = (zero-mul, one-mul, zero-add, add-zero, +ℤ-idl, +ℤ-idr)
+
+-- the flow without caps: the flow numerator over every face
+abbrev plainFlow : Road → ℕ → ℕ → ℕ → ℕ
+plainFlow r face a b = numerator r a b
 
 module _ (r : Road) (ok : Accepted r) where
   -- a flow that is the published one at each letter is, at a face's own letter, its flow numerator
@@ -95,7 +106,7 @@ module _ (r : Road) (ok : Accepted r) where
 
   rows-advance : (i left down : ℕ) (xs : List ℕ) → down ≤ r .jam → Below (r .jam) xs
       → rowNumerators r left down (wordOf r left down xs) xs
-      ≡ map pos (advance (r .divisor) (whole r) i (numerator r left (ahead down xs)) down xs)
+      ≡ map pos (advance (r .divisor) (plainFlow r) i (numerator r left (ahead down xs)) down xs)
   unfolding rowNumerators advance ahead
   rows-advance i left down [] g h = refl
   rows-advance i left down (x ∷ xs) g h =
@@ -103,15 +114,57 @@ module _ (r : Road) (ok : Accepted r) where
       rows-cons left down x xs
       ∙ ap₂ _∷_ (row-exact left x (ahead down xs) (h 0) ahead-high) (rows-advance (suc i) x down xs g (λ k. h (suc k)))
 
-  -- a state's own word gives the exact step
-  pub rows-exact : (up down : ℕ) (xs : List ℕ) → down ≤ r .jam → Below (r .jam) xs
-      → rowNumerators r up down (wordOf r up down xs) xs ≡ map pos (exactStep r 1 up down xs)
+  -- a state's own word gives the exact step of the flow without caps
+  rows-exact : (up down : ℕ) (xs : List ℕ) → down ≤ r .jam → Below (r .jam) xs
+      → rowNumerators r up down (wordOf r up down xs) xs ≡ map pos (stepped (r .divisor) (plainFlow r) up down xs)
   unfolding stepped entering
-  rows-exact up down xs g h = rw exactStep-one (rows-advance 1 up down xs g h)
+  rows-exact up down xs g h = rows-advance 1 up down xs g h
 
-  -- and D times a rounded new density differs from its row's value by less than D
-  pub rows-near : (up down : ℕ) (xs : List ℕ) (k : ℕ) → down ≤ r .jam → Below (r .jam) xs
-      → natAbs (pos (r .divisor * getD (roundStep r up down xs) k 0) -ℤ getD (rowNumerators r up down (wordOf r up down xs) xs) k (pos 0))
-      < r .divisor
-  rows-near up down xs k g h =
-      rw (rows-exact up down xs g h, List·getD-map pos (exactStep r 1 up down xs) k 0, natAbs-minus) (round-near-cell r ok up down xs k)
+  module _ (up down : ℕ) (xs : List ℕ) (up-high : up ≤ r .jam) (down-high : down ≤ r .jam) (below : Below (r .jam) xs) where
+    abbrev rows : List ℤ
+    rows = rowNumerators r up down (wordOf r up down xs) xs
+
+    -- a cell whose faces the caps leave alone is that of the flow without caps
+    uncapped-cell : (caps : List ℕ) (k : ℕ) → k < length xs → Uncapped r caps up down xs k
+        → getD (exactStep r caps 1 up down xs) k 0 ≡ getD (stepped (r .divisor) (plainFlow r) up down xs) k 0
+    unfolding numeratorOver
+    uncapped-cell caps k h free =
+        let law = numerator-law r (accepted-sound ok) in
+        rw exactStep-one
+        (same-cell (λ i. capped-law law (getD caps i 0 * r .divisor)) (λ i. law) up down xs k h
+        (min-eq-left (rw (add-one k) at (free .left))) (min-eq-left (rw (add-one k, add-one (suc k)) at (free .right))))
+
+    pub row-uncapped : (caps : List ℕ) (k : ℕ) → k < length xs → Uncapped r caps up down xs k → getD rows k (pos 0) ≡ pos (getD (exactStep r caps 1 up down xs) k 0)
+    row-uncapped caps k h free =
+        ap (λ (ys : List ℤ). getD ys k (pos 0)) (rows-exact up down xs down-high below)
+        ∙ List·getD-map pos (stepped (r .divisor) (plainFlow r) up down xs) k 0
+        ∙ ap pos (sym (uncapped-cell caps k h free))
+
+    -- and D times a rounded new density differs from its row's value by less than D
+    near-of : (caps : List ℕ) (k : ℕ) → getD rows k (pos 0) ≡ pos (getD (exactStep r caps 1 up down xs) k 0)
+        → natAbs (pos (r .divisor * getD (roundStep r caps up down xs) k 0) -ℤ getD rows k (pos 0)) < r .divisor
+    near-of caps k e = rw (e, natAbs-minus) (round-near-cell r caps ok up down xs k)
+
+    pub row-near : (caps : List ℕ) (k : ℕ) → k < length xs → Uncapped r caps up down xs k
+        → natAbs (pos (r .divisor * getD (roundStep r caps up down xs) k 0) -ℤ getD rows k (pos 0)) < r .divisor
+    row-near caps k h free = near-of caps k (row-uncapped caps k h free)
+
+    -- open caps leave every cell alone
+    open-leaves : (k : ℕ) → k < length xs → Uncapped r (openCaps (length xs)) up down xs k
+    unfolding numeratorOver
+    open-leaves k h =
+        let within = padded-below xs up-high down-high below in
+        record { left = open-exceeds r ok (length xs) k _ _ (omega arith) (within k); right = open-exceeds r ok (length xs) (k + 1) _ _ (omega arith) (within (k + 1)) }
+
+    -- so that the exact step under them is that of the flow without caps
+    open-step : exactStep r (openCaps (length xs)) 1 up down xs ≡ stepped (r .divisor) (plainFlow r) up down xs
+    open-step =
+        ext-getD 0 (exactStep r (openCaps (length xs)) 1 up down xs) (stepped (r .divisor) (plainFlow r) up down xs) (simp stepped-length)
+        (λ k h. let inside : k < length xs = rw stepped-length at h in uncapped-cell (openCaps (length xs)) k inside (open-leaves k inside))
+
+    pub rows-open : rows ≡ map pos (exactStep r (openCaps (length xs)) 1 up down xs)
+    rows-open = rows-exact up down xs down-high below ∙ ap (map pos) (sym open-step)
+
+    pub rows-open-near : (k : ℕ) → natAbs (pos (r .divisor * getD (roundStep r (openCaps (length xs)) up down xs) k 0) -ℤ getD rows k (pos 0)) < r .divisor
+    rows-open-near k =
+        near-of (openCaps (length xs)) k (ap (λ (ys : List ℤ). getD ys k (pos 0)) rows-open ∙ List·getD-map pos (exactStep r (openCaps (length xs)) 1 up down xs) k 0)

@@ -15,8 +15,8 @@ use Rattle.road.specs.declared.refusal.Refusal.{Refusal}
 use Rattle.scheme.specs.Sums.{Below}
 use Rattle.scheme.specs.Word.{wordOf}
 use Rattle.scheme.specs.Exact.{exactStep}
-use Rattle.scheme.specs.Rounded.{roundStep}
-use Rattle.scheme.specs.ByFaces.{ExactStepByFaces}
+use Rattle.scheme.specs.Rounded.{openCaps, roundStep}
+use Rattle.scheme.specs.ByFaces.{numeratorOver, ExactStepByFaces}
 use Rattle.words.specs.Words.{legal}
 use Rattle.rows.specs.Rows.{rowNumerators}
 use Rattle.rows.specs.Judging.{predictShapeRows, predictRows, predictRefusal}
@@ -64,11 +64,21 @@ abbrev pub PredictJudged : Road → List ℕ → ℕ → ℕ → List ℕ → �
 PredictJudged r cells up down word out f =
     Judged (predictRows r cells up down word out) (PredictChecked r cells up down word out) (PairWordPlaced r cells up down word) f
 
--- rows of the state's own word: the exact, unrounded step, with no subtraction cut off, and D times the rounded new density differs from it by less than D
+-- "neither face's numerator exceeds its cap × D", equality included: the faces of cell k+1, which stands at place k, are k and k+1
+pub record Uncapped (r : Road) (caps : List ℕ) (up down : ℕ) (cells : List ℕ) (k : ℕ) : Type 0 where
+  pub left : numeratorOver r up down cells k ≤ getD caps k 0 * r .divisor
+  pub right : numeratorOver r up down cells (k + 1) ≤ getD caps (k + 1) 0 * r .divisor
+
+-- rows of the state's own word, "promised equal to the exact step where neither face's numerator exceeds its cap × D" (document 02, E7): there the row at place k is the cell at place k of the exact,
+-- unrounded step under the caps, in which no subtraction is cut off, and D times the rounded new density differs from it by less than D. Elsewhere nothing more is said
 pub record OwnRows (r : Road) (cells : List ℕ) (up down : ℕ) (rows : List ℤ) : Type 0 where
-  pub exact : rows ≡ map pos (exactStep r 1 up down cells)
-  pub exact-step : ExactStepByFaces r 1 up down cells (exactStep r 1 up down cells)
-  pub near : (k : ℕ) → natAbs (pos (r .divisor * getD (roundStep r up down cells) k 0) -ℤ getD rows k (pos 0)) < r .divisor
+  pub exact : (caps : List ℕ) (k : ℕ) → k < length cells → Uncapped r caps up down cells k → getD rows k (pos 0) ≡ pos (getD (exactStep r caps 1 up down cells) k 0)
+  pub exact-step : (caps : List ℕ) → ExactStepByFaces r caps 1 up down cells (exactStep r caps 1 up down cells)
+  pub near : (caps : List ℕ) (k : ℕ) → k < length cells → Uncapped r caps up down cells k
+      → natAbs (pos (r .divisor * getD (roundStep r caps up down cells) k 0) -ℤ getD rows k (pos 0)) < r .divisor
+  -- with open caps both hold of every cell: document 01's sentence as it was
+  pub plain : rows ≡ map pos (exactStep r (openCaps (length cells)) 1 up down cells)
+  pub plain-near : (k : ℕ) → natAbs (pos (r .divisor * getD (roundStep r (openCaps (length cells)) up down cells) k 0) -ℤ getD rows k (pos 0)) < r .divisor
 
 -- an accepted row prediction of n cells: n numerators, by the rows of the word, which is the word of some accepted state
 pub record PredictState (r : Road) (cells : List ℕ) (up down : ℕ) (word : List ℕ) (rows : List ℤ) : Type 0 where

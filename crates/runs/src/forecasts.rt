@@ -8,6 +8,7 @@ use printing::lists;
 use printing::page;
 use printing::page::Page;
 use request::buffers;
+use request::caps;
 use request::keys;
 use request::numbers;
 use request::refusals;
@@ -16,7 +17,7 @@ use request::status;
 use road::Road;
 use scheme::Totals;
 
-fn report(page: &mut Page, lines: bool, d: Record, horizon: u32, cells: &[u32]) {
+fn report(page: &mut Page, lines: bool, d: Record, horizon: u32, caps: &[u32], cells: &[u32]) {
     let n = cells.len() as u64;
     let own = d.own;
     let totals = d.totals;
@@ -33,14 +34,9 @@ fn report(page: &mut Page, lines: bool, d: Record, horizon: u32, cells: &[u32]) 
         lists::densities(page, true, cells);
         page::put(page, b'\n');
     } else {
-        say(
-            page,
-            forms::FORECAST,
-            n,
-            horizon as u64,
-            own.entered,
-            own.left,
-        );
+        say(page, forms::FORECAST, n, horizon as u64, 0, 0);
+        caps::tell(page, caps::narrowed(caps), caps.len());
+        say(page, forms::OWN, own.entered, own.left, 0, 0);
         say(page, forms::TOTALS, totals.entered, totals.left, 0, 0);
         lists::densities(page, false, cells);
     }
@@ -55,16 +51,23 @@ fn made(
     ups: &[u32],
     downs: &[u32],
     horizon: u32,
+    caps: &[u32],
     totals: Totals,
     out: &mut [u32],
 ) -> bool {
-    match forecast::forecast(road, cells, ups, downs, horizon, totals, out) {
+    match forecast::forecast(road, cells, ups, downs, horizon, caps, totals, out) {
         ForecastAnswer::Done(d) => {
-            report(page, lines, d, horizon, out);
+            report(page, lines, d, horizon, caps, out);
             true
         }
         ForecastAnswer::Refused(f) => {
-            let given = Input::of_forecast(cells.len(), ups.len(), downs.len(), horizon);
+            let given = Input::of_forecast(
+                cells.len(),
+                ups.len(),
+                downs.len(),
+                horizon,
+                caps.len(),
+            );
             refusals::print(page, lines, keys::FORECAST, f, given);
             false
         }
@@ -80,16 +83,29 @@ fn made_and_drawn(
     ups: &[u32],
     downs: &[u32],
     horizon: u32,
+    caps: &[u32],
     totals: Totals,
     out: &mut [u32],
 ) -> u8 {
-    if !made(page, o.lines, road, cells, ups, downs, horizon, totals, out) {
+    let is_made = made(
+        page,
+        o.lines,
+        road,
+        cells,
+        ups,
+        downs,
+        horizon,
+        caps,
+        totals,
+        out,
+    );
+    if !is_made {
         return status::REFUSED;
     }
     if o.picture == 0 {
         return status::DONE;
     }
-    drawing::act(page, o, road, cells, ups, downs, out)
+    drawing::act(page, o, road, cells, ups, downs, caps, out)
 }
 
 // The forecast of a text; the status.
@@ -97,10 +113,12 @@ pub fn act(page: &mut Page, o: Options, text: &[u8]) -> u8 {
     let mut cells = buffers::cells();
     let mut ups = buffers::ends();
     let mut downs = buffers::ends();
+    let mut caps = buffers::caps();
     let mut out = buffers::cells();
     let n = numbers::list(text, keys::CELLS, &mut cells);
     let u = numbers::list(text, keys::UPSTREAM, &mut ups);
     let d = numbers::list(text, keys::DOWNSTREAM, &mut downs);
+    let c = caps::list(text, n, &mut caps);
     let m = numbers::within(n, &out);
     made_and_drawn(
         page,
@@ -110,6 +128,7 @@ pub fn act(page: &mut Page, o: Options, text: &[u8]) -> u8 {
         &ups[..u],
         &downs[..d],
         numbers::one(text, keys::HORIZON),
+        &caps[..c],
         numbers::totals(text),
         &mut out[..m],
     )

@@ -6,6 +6,7 @@ use printing::lists;
 use printing::page;
 use printing::page::Page;
 use request::buffers;
+use request::caps;
 use request::keys;
 use request::numbers;
 use request::numbers::Pair;
@@ -33,13 +34,16 @@ fn line(page: &mut Page, s: Settled, cells: &[u32]) {
     page::put(page, b'\n');
 }
 
-fn report(page: &mut Page, s: Settled, horizon: u32, cells: &[u32]) {
+fn report(page: &mut Page, s: Settled, horizon: u32, caps: &[u32], cells: &[u32]) {
     let n = cells.len() as u64;
     say(page, forms::SETTLE, n, horizon as u64, 0, 0);
-    if !s.settled {
-        say(page, forms::NOT, 0, 0, 0, 0);
-    }
-    say(page, forms::SETTLED, s.steps as u64, 0, 0, 0);
+    caps::tell(page, caps::narrowed(caps), caps.len());
+    let form = if s.settled {
+        forms::SETTLED
+    } else {
+        forms::NOT_SETTLED
+    };
+    say(page, form, s.steps as u64, 0, 0, 0);
     lists::densities(page, false, cells);
 }
 
@@ -50,19 +54,21 @@ fn made(
     cells: &[u32],
     ends: Pair,
     horizon: u32,
+    caps: &[u32],
     out: &mut [u32],
 ) -> u8 {
-    match forecast::settle(road, cells, ends.up, ends.down, horizon, out) {
+    match forecast::settle(road, cells, ends.up, ends.down, horizon, caps, out) {
         SettleAnswer::Done(s) => {
             if lines {
                 line(page, s, out);
             } else {
-                report(page, s, horizon, out);
+                report(page, s, horizon, caps, out);
             }
             status::DONE
         }
         SettleAnswer::Refused(f) => {
-            refusals::print(page, lines, keys::SETTLE, f, Input::of_cells(cells.len()));
+            let given = Input::of_settling(cells.len(), caps.len());
+            refusals::print(page, lines, keys::SETTLE, f, given);
             status::REFUSED
         }
     }
@@ -71,8 +77,10 @@ fn made(
 // The settling run of a text; the status.
 pub fn act(page: &mut Page, lines: bool, text: &[u8]) -> u8 {
     let mut cells = buffers::cells();
+    let mut caps = buffers::caps();
     let mut out = buffers::cells();
     let n = numbers::list(text, keys::CELLS, &mut cells);
+    let c = caps::list(text, n, &mut caps);
     let m = numbers::within(n, &out);
     made(
         page,
@@ -81,6 +89,7 @@ pub fn act(page: &mut Page, lines: bool, text: &[u8]) -> u8 {
         &cells[..n],
         numbers::pair_of(text),
         numbers::one(text, keys::HORIZON),
+        &caps[..c],
         &mut out[..m],
     )
 }

@@ -1,23 +1,25 @@
 -- Faces one by one: face k lies between cells k and k+1, the ghost cells standing at 0 and n+1.
-use mathlib.Core.Path.{_≡_, _∙_, refl, sym, ap, ap₂}
-use mathlib.Core.Bool.{Bool, true, false, false≢true}
+use mathlib.Core.Path.{_≡_, _∙_, refl, sym, ap}
+use mathlib.Core.Bool.{true}
 use mathlib.Core.Logic.{_↔_}
 use mathlib.Core.List.{List, [], _∷_}
-use Prim.Native.Nat.{ℕ, zero, suc, _+_, _≤_}
+use Prim.Native.Nat.{ℕ, zero, suc, _+_, _≤_, _<_}
 use native.Mathlib.Nat.{le-of-suc-le-suc, not-suc-le-zero, add-zero, zero-add, add-suc, suc-add}
+use native.Mathlib.Omega.{arith}
 use lib.Dec.{eqb}
 use lib.ListN.{length, getD}
 use borrow.Author.Tests.{eqb-true, eq-eqb}
-use Rattle.choice.specs.Choice.{both}
 use Rattle.road.specs.declared.Road.{Road}
 use Rattle.choice.proofs.Choice.{both-first, both-second}
 use Rattle.flux.specs.Face.{letter}
-use Rattle.scheme.specs.Advance.{ahead, outflow, flows, entering, leaving, padded, faceFlows}
+use Rattle.scheme.specs.Advance.{ahead, outflow, flows, entering, leaving, stepped, padded, faceFlows}
 use Rattle.scheme.specs.Sums.{sum, sameList}
+use Rattle.scheme.specs.Partners.{Lawful}
 use Rattle.scheme.specs.Word.{wordOf}
 use Rattle.scheme.specs.Rounded.{roundStep}
 use Rattle.scheme.specs.Settling.{still}
 use Rattle.scheme.proofs.Lists.{same-lists, lists-same}
+use Rattle.scheme.proofs.Range.{stepped-cell}
 
 -- a word is n+1 letters, and letter k is that of face k
 pub word-length : (r : Road) (up down : ℕ) (xs : List ℕ) → length (wordOf r up down xs) ≡ suc (length xs)
@@ -67,16 +69,35 @@ module _ (F : ℕ → ℕ → ℕ → ℕ) where
   unfolding faceFlows leaving
   leaves-last up down xs = last-from 1 (entering F up down xs) down xs
 
+-- two lawful flows that agree at the faces of a cell give the same cell, whatever they are elsewhere
+pub same-cell : {m j c : ℕ} {F G : ℕ → ℕ → ℕ → ℕ} → Lawful m j c F → Lawful m j c G → (up down : ℕ) (xs : List ℕ) (k : ℕ) → k < length xs
+    → F k (getD (padded up down xs) k 0) (getD (padded up down xs) (suc k) 0) ≡ G k (getD (padded up down xs) k 0) (getD (padded up down xs) (suc k) 0)
+    → F (suc k) (getD (padded up down xs) (suc k) 0) (getD (padded up down xs) (suc (suc k)) 0) ≡ G (suc k) (getD (padded up down xs) (suc k) 0) (getD (padded up down xs) (suc (suc k)) 0)
+    → getD (stepped m F up down xs) k 0 ≡ getD (stepped m G up down xs) k 0
+unfolding faceFlows
+same-cell {F = F} {G = G} lawful lawful′ up down xs k h left right =
+    omega (
+      arith,
+      stepped-cell lawful up down xs k h,
+      stepped-cell lawful′ up down xs k h,
+      flow-at F up down xs k (omega arith),
+      flow-at G up down xs k (omega arith),
+      flow-at F up down xs (suc k) h,
+      flow-at G up down xs (suc k) h,
+      left,
+      right,
+    )
+
 -- a step is still exactly when it keeps the letter at every face and the sum of the cells
-pub still-means : (r : Road) (up down : ℕ) (xs : List ℕ)
-    → (still r up down xs ≡ true) ↔ ((wordOf r up down (roundStep r up down xs) ≡ wordOf r up down xs) × (sum (roundStep r up down xs) ≡ sum xs))
+pub still-means : (r : Road) (caps : List ℕ) (up down : ℕ) (xs : List ℕ)
+    → (still r caps up down xs ≡ true) ↔ ((wordOf r up down (roundStep r caps up down xs) ≡ wordOf r up down xs) × (sum (roundStep r caps up down xs) ≡ sum xs))
 unfolding still
-still-means r up down xs = (
+still-means r caps up down xs = (
   λ e.
-      let words = sameList (wordOf r up down xs) (wordOf r up down (roundStep r up down xs)) in
-      let sums = eqb (sum xs) (sum (roundStep r up down xs)) in (
-        sym (same-lists (wordOf r up down xs) (wordOf r up down (roundStep r up down xs)) (both-first words sums e)),
-        sym (eqb-true (sum xs) (sum (roundStep r up down xs)) (both-second words sums e)),
+      let words = sameList (wordOf r up down xs) (wordOf r up down (roundStep r caps up down xs)) in
+      let sums = eqb (sum xs) (sum (roundStep r caps up down xs)) in (
+        sym (same-lists (wordOf r up down xs) (wordOf r up down (roundStep r caps up down xs)) (both-first words sums e)),
+        sym (eqb-true (sum xs) (sum (roundStep r caps up down xs)) (both-second words sums e)),
       ),
   λ p. rw (p .0, p .1, lists-same (wordOf r up down xs)) (eq-eqb (sum xs) (sum xs) refl),
 )

@@ -1,4 +1,4 @@
--- The theorems of the scheme: range, balance, order and distance of a step and of a run, the loops of the code, and settling.
+-- The theorems of the scheme: range, balance, order and distance of a step and of a run, open caps, the loops of the code, and settling.
 pub mod Lists
 pub mod Shape
 pub mod Range
@@ -10,6 +10,7 @@ pub mod Runs
 pub mod Scaling
 pub mod Distance
 pub mod Laws
+pub mod Open
 pub mod Ahead
 pub mod InPlace
 pub mod Underway

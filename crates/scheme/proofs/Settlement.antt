@@ -101,32 +101,32 @@ module _ {S : List ℕ → List ℕ} {T : List ℕ → Bool} {j t : ℕ} {old ce
   pub turns : (next : List ℕ) → k < t → T cells ≡ false → next ≡ S cells → length (S cells) ≡ length cells → Below j (S cells) → StillnessSought S T j t old next (k + 1)
   turns = rw (add-one k) turn
 
-module _ (r : Road) (up down : ℕ) where
-  pub least-still : (t : ℕ) (xs : List ℕ) → LeastStill r up down t xs (settles r up down t xs) (settleSteps r up down t xs)
+module _ (r : Road) (caps : List ℕ) (up down : ℕ) where
+  pub least-still : (t : ℕ) (xs : List ℕ) → LeastStill r caps up down t xs (settles r caps up down t xs) (settleSteps r caps up down t xs)
   unfolding settles settleSteps
-  least-still = least (roundStep r up down) (still r up down)
+  least-still = least (roundStep r caps up down) (still r caps up down)
 
-  module _ {j t : ℕ} {old cells : List ℕ} {k : ℕ} (now : StillnessSought (roundStep r up down) (still r up down) j t old cells k) where
+  module _ {j t : ℕ} {old cells : List ℕ} {k : ℕ} (now : StillnessSought (roundStep r caps up down) (still r caps up down) j t old cells k) where
     -- a still step follows
-    pub settled : k < t → still r up down cells ≡ true → SettledTo r up down t old cells record { settled = true; steps = k }
+    pub settled : k < t → still r caps up down cells ≡ true → SettledTo r caps up down t old cells record { settled = true; steps = k }
     unfolding settles settleSteps settleCells
     settled h e =
-        let here = ends-here (roundStep r up down) (still r up down) (t - suc k) cells e in
-        let steps : k ≡ settleSteps r up down t old = omega (arith, rw (one-less now h) at (now .steps-left), here .1) in
+        let here = ends-here (roundStep r caps up down) (still r caps up down) (t - suc k) cells e in
+        let steps : k ≡ settleSteps r caps up down t old = omega (arith, rw (one-less now h) at (now .steps-left), here .1) in
         record {
-          cells = now .reached ∙ ap (λ (n : ℕ). iterated (roundStep r up down) n old) steps;
+          cells = now .reached ∙ ap (λ (n : ℕ). iterated (roundStep r caps up down) n old) steps;
           settled = sym (here .0) ∙ rw (one-less now h) at (now .finds-left);
           steps = steps;
         }
 
     -- the horizon is used up
-    pub unsettled : t ≤ k → SettledTo r up down t old cells record { settled = false; steps = k }
+    pub unsettled : t ≤ k → SettledTo r caps up down t old cells record { settled = false; steps = k }
     unfolding settles settleSteps settleCells
     unsettled h =
         let none = sub-eq-zero-of-le h in
-        let steps : k ≡ settleSteps r up down t old = omega (arith, rw none at (now .steps-left)) in
+        let steps : k ≡ settleSteps r caps up down t old = omega (arith, rw none at (now .steps-left)) in
         record {
-          cells = now .reached ∙ ap (λ (n : ℕ). iterated (roundStep r up down) n old) steps;
+          cells = now .reached ∙ ap (λ (n : ℕ). iterated (roundStep r caps up down) n old) steps;
           settled = rw none at (now .finds-left);
           steps = steps;
         }

@@ -83,8 +83,8 @@ module _ {j c : ℕ} {F : ℕ → ℕ → ℕ → ℕ → ℕ} (laws : AlwaysLaw
   turns = rw (add-one t) turn
 
 -- all steps made, on a road
-pub ends : {r : Road} {ups downs old xs : List ℕ} {in-sum out-sum t : ℕ} → RunUnderway (r .jam) (λ s. moved r) ups downs old xs in-sum out-sum t
-    → length ups ≤ t → length downs ≤ t → Ran r ups downs old xs record { entered = in-sum; left = out-sum }
+pub ends : {r : Road} {caps ups downs old xs : List ℕ} {in-sum out-sum t : ℕ} → RunUnderway (r .jam) (λ s. moved r caps) ups downs old xs in-sum out-sum t
+    → length ups ≤ t → length downs ≤ t → Ran r caps ups downs old xs record { entered = in-sum; left = out-sum }
 unfolding roundRun entered left
 ends {ups = ups} {downs = downs} {t = t} now h g =
     let all = take-all t ups h in

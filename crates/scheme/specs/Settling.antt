@@ -1,7 +1,7 @@
 -- The settling run: one end pair for all steps, up to the first still step (document 01, "Step, forecast and settling").
 use mathlib.Core.Path.{_≡_}
 use mathlib.Core.Bool.{Bool, true, false}
-use mathlib.Core.List.{List, [], _∷_}
+use mathlib.Core.List.{List}
 use Prim.Native.Nat.{ℕ, zero, suc, _<_}
 use lib.Dec.{eqb}
 use Rattle.choice.specs.Choice.{pick, both}
@@ -11,17 +11,17 @@ use Rattle.scheme.specs.Runs.{iterated}
 use Rattle.scheme.specs.Word.{wordOf}
 use Rattle.scheme.specs.Rounded.{roundStep}
 
--- the step keeps the letter at every face
-abbrev pub keepsLetters : Road → ℕ → ℕ → List ℕ → Bool
-keepsLetters r up down xs = sameList (wordOf r up down xs) (wordOf r up down (roundStep r up down xs))
+-- the step keeps the letter at every face: the step obeys the caps, the letters "describe the road without caps" (document 02, E7)
+abbrev pub keepsLetters : Road → List ℕ → ℕ → ℕ → List ℕ → Bool
+keepsLetters r caps up down xs = sameList (wordOf r up down xs) (wordOf r up down (roundStep r caps up down xs))
 
 -- still: it keeps the letter at every face and the sum of the cells
-unfoldable pub still : Road → ℕ → ℕ → List ℕ → Bool
-still r up down xs = both (keepsLetters r up down xs) (eqb (sum xs) (sum (roundStep r up down xs)))
+unfoldable pub still : Road → List ℕ → ℕ → ℕ → List ℕ → Bool
+still r caps up down xs = both (keepsLetters r caps up down xs) (eqb (sum xs) (sum (roundStep r caps up down xs)))
 
 -- the cells after k steps with the one end pair
-abbrev pub after : Road → ℕ → ℕ → ℕ → List ℕ → List ℕ
-after r up down k xs = iterated (roundStep r up down) k xs
+abbrev pub after : Road → List ℕ → ℕ → ℕ → ℕ → List ℕ → List ℕ
+after r caps up down k xs = iterated (roundStep r caps up down) k xs
 
 -- a search along the steps S for a state that a test finds, among the first t: whether there is one, and the steps to the first, else t
 unfoldable pub finds : (List ℕ → List ℕ) → (List ℕ → Bool) → ℕ → List ℕ → Bool
@@ -33,18 +33,18 @@ stepsTo S test zero xs = 0
 stepsTo S test (suc t) xs = pick (test xs) 0 (suc (stepsTo S test t (S xs)))
 
 -- settled: some step of the first T is still
-unfoldable pub settles : Road → ℕ → ℕ → ℕ → List ℕ → Bool
+unfoldable pub settles : Road → List ℕ → ℕ → ℕ → ℕ → List ℕ → Bool
 unfolding finds
-settles r up down = finds (roundStep r up down) (still r up down)
+settles r caps up down = finds (roundStep r caps up down) (still r caps up down)
 
 -- the steps made: the least k below T such that step k+1 is still, else T
-unfoldable pub settleSteps : Road → ℕ → ℕ → ℕ → List ℕ → ℕ
+unfoldable pub settleSteps : Road → List ℕ → ℕ → ℕ → ℕ → List ℕ → ℕ
 unfolding stepsTo
-settleSteps r up down = stepsTo (roundStep r up down) (still r up down)
+settleSteps r caps up down = stepsTo (roundStep r caps up down) (still r caps up down)
 
 -- the state handed back: the one after those steps
-unfoldable pub settleCells : Road → ℕ → ℕ → ℕ → List ℕ → List ℕ
-settleCells r up down t xs = after r up down (settleSteps r up down t xs) xs
+unfoldable pub settleCells : Road → List ℕ → ℕ → ℕ → ℕ → List ℕ → List ℕ
+settleCells r caps up down t xs = after r caps up down (settleSteps r caps up down t xs) xs
 
 -- what a report of k steps means: the test finds none of the states before; settled says that it finds the one after k steps, with k below t; unsettled that k is t
 pub record Least (S : List ℕ → List ℕ) (test : List ℕ → Bool) (t : ℕ) (xs : List ℕ) (settled : Bool) (k : ℕ) : Type 0 where
@@ -54,5 +54,5 @@ pub record Least (S : List ℕ → List ℕ) (test : List ℕ → Bool) (t : ℕ
   pub none : settled ≡ false → k ≡ t
 
 -- none of the first k steps is still, and step k+1 is, or k is T
-abbrev pub LeastStill : Road → ℕ → ℕ → ℕ → List ℕ → Bool → ℕ → Type 0
-LeastStill r up down = Least (roundStep r up down) (still r up down)
+abbrev pub LeastStill : Road → List ℕ → ℕ → ℕ → ℕ → List ℕ → Bool → ℕ → Type 0
+LeastStill r caps up down = Least (roundStep r caps up down) (still r caps up down)

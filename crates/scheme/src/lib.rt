@@ -6,6 +6,7 @@ mod settling;
 pub use many_steps::Totals;
 pub use many_steps::run;
 pub use one_step::Moved;
+pub use one_step::OPEN;
 pub use one_step::step;
 pub use settling::Settled;
 pub use settling::density_at;

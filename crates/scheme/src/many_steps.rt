@@ -10,15 +10,21 @@ pub struct Totals {
 }
 
 // Internal: the list then holds the cells after the last step.
-pub fn run(pace: Pace, cells: &mut [u32], upstream: &[u32], downstream: &[u32]) -> Totals
-    requires { ⌜ ReadyToRun pace (now cells) (now upstream) (now downstream) ⌝ }
-    ensures { λ t. ⌜ Ran (pace .road) (now (upstream .entry)) (now (downstream .entry)) (now (cells .entry)) (now (cells .exit)) t ⌝ }
+pub fn run(
+    pace: Pace,
+    caps: &[u32],
+    cells: &mut [u32],
+    upstream: &[u32],
+    downstream: &[u32],
+) -> Totals
+    requires { ⌜ ReadyToRun pace (now caps) (now cells) (now upstream) (now downstream) ⌝ }
+    ensures { λ t. ⌜ Ran (pace .road) (now (caps .entry)) (now (upstream .entry)) (now (downstream .entry)) (now (cells .entry)) (now (cells .exit)) t ⌝ }
 {
     let mut entered: u64 = 0;
     let mut left: u64 = 0;
     let mut t = 0;
     while t < upstream.len() {
-        let moved = step(pace, cells, upstream[t], downstream[t]);
+        let moved = step(pace, caps, cells, upstream[t], downstream[t]);
         entered += moved.entered as u64;
         left += moved.left as u64;
         t += 1;

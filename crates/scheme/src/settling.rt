@@ -38,12 +38,12 @@ fn keeps_letter(r: Road, a: u32, b: u32, c: u32, d: u32) -> bool
     flux::letter(r, a, b) == flux::letter(r, c, d)
 }
 
-// Internal: whether the next step would keep the letter at every face. Works the new densities as the step does, without
-// writing them.
-fn keeps_letters(pace: Pace, cells: &[u32], up: u32, down: u32, first: u32) -> bool
-    requires { ⌜ Ready pace (now cells) up down ⌝ }
-    requires { ⌜ first ≡ entering (moved (pace .road)) up down (now cells) ⌝ }
-    ensures { λ s. ⌜ s ≡ keepsLetters (pace .road) up down (now (cells .entry)) ⌝ }
+// Internal: whether the next step would keep the letter at every face, which is that of the road without caps. Works the
+// new densities as the step does, without writing them.
+fn keeps_letters(pace: Pace, caps: &[u32], cells: &[u32], up: u32, down: u32, first: u32) -> bool
+    requires { ⌜ Ready pace (now caps) (now cells) up down ⌝ }
+    requires { ⌜ first ≡ entering (moved (pace .road) (now caps)) up down (now cells) ⌝ }
+    ensures { λ s. ⌜ s ≡ keepsLetters (pace .road) (now (caps .entry)) up down (now (cells .entry)) ⌝ }
 {
     let mut old_left = up;
     let mut new_left = up;
@@ -51,7 +51,7 @@ fn keeps_letters(pace: Pace, cells: &[u32], up: u32, down: u32, first: u32) -> b
     let mut i = 0;
     while i < cells.len() {
         let own = cells[i];
-        let out = pace.flow(own, density_at(cells, i + 1, down));
+        let out = pace.flow(own, density_at(cells, i + 1, down), caps[i + 1]);
         let new = own + inflow - out;
         if !keeps_letter(pace.road, old_left, own, new_left, new) {
             return false;
@@ -66,33 +66,41 @@ fn keeps_letters(pace: Pace, cells: &[u32], up: u32, down: u32, first: u32) -> b
 
 // Internal: whether the next step would be still. The sum of the cells is kept exactly when as much leaves as enters,
 // which is seldom so: only then are the letters looked at.
-fn is_still(pace: Pace, cells: &[u32], up: u32, down: u32) -> bool
-    requires { ⌜ Ready pace (now cells) up down ⌝ }
-    ensures { λ s. ⌜ s ≡ still (pace .road) up down (now (cells .entry)) ⌝ }
+fn is_still(pace: Pace, caps: &[u32], cells: &[u32], up: u32, down: u32) -> bool
+    requires { ⌜ Ready pace (now caps) (now cells) up down ⌝ }
+    ensures { λ s. ⌜ s ≡ still (pace .road) (now (caps .entry)) up down (now (cells .entry)) ⌝ }
 {
-    let first = pace.flow(up, cells[0]);
-    let last = pace.flow(cells[cells.len() - 1], down);
+    let n = cells.len();
+    let first = pace.flow(up, cells[0], caps[0]);
+    let last = pace.flow(cells[n - 1], down, caps[n]);
     if first == last {
-        keeps_letters(pace, cells, up, down, first)
+        keeps_letters(pace, caps, cells, up, down, first)
     } else {
         false
     }
 }
 
 // Internal: the list then holds the state that the settling run hands back.
-pub fn settle(pace: Pace, cells: &mut [u32], up: u32, down: u32, horizon: u32) -> Settled
-    requires { ⌜ Ready pace (now cells) up down ⌝ }
-    ensures { λ s. ⌜ SettledTo (pace .road) up down horizon (now (cells .entry)) (now (cells .exit)) s ⌝ }
+pub fn settle(
+    pace: Pace,
+    caps: &[u32],
+    cells: &mut [u32],
+    up: u32,
+    down: u32,
+    horizon: u32,
+) -> Settled
+    requires { ⌜ Ready pace (now caps) (now cells) up down ⌝ }
+    ensures { λ s. ⌜ SettledTo (pace .road) (now (caps .entry)) up down horizon (now (cells .entry)) (now (cells .exit)) s ⌝ }
 {
     let mut steps = 0;
     while steps < horizon {
-        if is_still(pace, cells, up, down) {
+        if is_still(pace, caps, cells, up, down) {
             return Settled {
                 settled: true,
                 steps,
             };
         }
-        step(pace, cells, up, down);
+        step(pace, caps, cells, up, down);
         steps += 1;
     }
     Settled {

@@ -52,6 +52,7 @@ table =
     ∷ row "readlast  " false 0 number
     ∷ row "nearest   " false 0 number
     ∷ row "totals    " false 2 wide
+    ∷ row "caps      " true 0 number
     ∷ []
 
 -- what is no key: no name, and no values
@@ -64,7 +65,7 @@ keyRow code = getD table code none
 
 -- how many keywords there are: the table's rows (`rows-counted`)
 abbrev pub keyCount : ℕ
-keyCount = 25
+keyCount = 26
 
 -- whether a word, padded with blanks, is the name
 unfoldable pub isName : List ℕ → List ℕ → Bool

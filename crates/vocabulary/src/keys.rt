@@ -24,7 +24,7 @@ const NUMBER: u64 = 4294967295;
 const WIDE: u64 = 18446744073709551615;
 
 // How many keywords there are: a new one is one more here, and a row at the end of the table.
-const KEYS: usize = 25;
+const KEYS: usize = 26;
 
 // A key's code is its row's place. No other keyword starts with `end`: a text cut off within a keyword has no `end`.
 const TABLE: [Row; KEYS] = [
@@ -53,6 +53,7 @@ const TABLE: [Row; KEYS] = [
     Row(*b"readlast  ", false, 0, NUMBER),
     Row(*b"nearest   ", false, 0, NUMBER),
     Row(*b"totals    ", false, 2, WIDE),
+    Row(*b"caps      ", true, 0, NUMBER),
 ];
 
 // What is no key: no name, and no values.

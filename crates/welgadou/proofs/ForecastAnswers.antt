@@ -21,12 +21,12 @@ use Rattle.welgadou.specs.Parts.{flagOf}
 use Rattle.welgadou.specs.Level1.{Forecasted, SettledRun}
 use Rattle.welgadou.proofs.Answers.{meaning-along, judged-told, refusal-counts, former-when-refused}
 
-module _ {r : Road} {cells ups downs : List ℕ} {t : ℕ} {totals : Totals} {out next : List ℕ} {a : ForecastAnswer} (forecasts : Forecast.Forecasts r cells ups downs t totals out next a) where
-  forecast-told : {b : ForecastAnswer} → a ≡ b → ForecastJudged r cells ups downs t totals (length out) (refused (Forecast.meaning b .number) (Forecast.meaning b .place))
+module _ {r : Road} {caps cells ups downs : List ℕ} {t : ℕ} {totals : Totals} {out next : List ℕ} {a : ForecastAnswer} (forecasts : Forecast.Forecasts r caps cells ups downs t totals out next a) where
+  forecast-told : {b : ForecastAnswer} → a ≡ b → ForecastJudged r caps cells ups downs t totals (length out) (refused (Forecast.meaning b .number) (Forecast.meaning b .place))
   forecast-told e =
-      judged-told (ForecastJudged r cells ups downs t totals (length out)) (λ (x : ForecastAnswer). refused (Forecast.meaning x .number) (Forecast.meaning x .place)) e (forecasts .judged)
+      judged-told (ForecastJudged r caps cells ups downs t totals (length out)) (λ (x : ForecastAnswer). refused (Forecast.meaning x .number) (Forecast.meaning x .place)) e (forecasts .judged)
 
-  pub forecast-done : {d : Record} {entered left : ℕ} → a ≡ F.Done d → Forecasted r cells ups downs t out next entered (d .own .entered) left (d .own .left) totals (d .totals) 0 0
+  pub forecast-done : {d : Record} {entered left : ℕ} → a ≡ F.Done d → Forecasted r caps cells ups downs t out next entered (d .own .entered) left (d .own .left) totals (d .totals) 0 0
   forecast-done {d} e =
       let m = meaning-along Forecast.meaning e (forecasts .means) in
       record {
@@ -43,7 +43,7 @@ module _ {r : Road} {cells ups downs : List ℕ} {t : ℕ} {totals : Totals} {ou
         carried = λ z. forecasts .carried d e;
       }
 
-  pub forecast-refused : {f : Refusal} {entered left : ℕ} → a ≡ F.Refused f → Forecasted r cells ups downs t out next entered entered left left totals totals (f .place) (f .number)
+  pub forecast-refused : {f : Refusal} {entered left : ℕ} → a ≡ F.Refused f → Forecasted r caps cells ups downs t out next entered entered left left totals totals (f .place) (f .number)
   unfolding forecastAnswer forecastMeaning
   forecast-refused {f} e =
       let m = meaning-along Forecast.meaning e (forecasts .means) in
@@ -63,12 +63,12 @@ module _ {r : Road} {cells ups downs : List ℕ} {t : ℕ} {totals : Totals} {ou
         carried = λ z. absurd (counts z);
       }
 
-module _ {r : Road} {cells : List ℕ} {up down t : ℕ} {out next : List ℕ} {a : SettleAnswer} (settles : Settle.Settles r cells up down t out next a) where
-  settle-told : {b : SettleAnswer} → a ≡ b → SettleJudged r cells up down t (length out) (refused (Settle.meaning b .number) (Settle.meaning b .place))
+module _ {r : Road} {caps cells : List ℕ} {up down t : ℕ} {out next : List ℕ} {a : SettleAnswer} (settles : Settle.Settles r caps cells up down t out next a) where
+  settle-told : {b : SettleAnswer} → a ≡ b → SettleJudged r caps cells up down t (length out) (refused (Settle.meaning b .number) (Settle.meaning b .place))
   settle-told e =
-      judged-told (SettleJudged r cells up down t (length out)) (λ (x : SettleAnswer). refused (Settle.meaning x .number) (Settle.meaning x .place)) e (settles .judged)
+      judged-told (SettleJudged r caps cells up down t (length out)) (λ (x : SettleAnswer). refused (Settle.meaning x .number) (Settle.meaning x .place)) e (settles .judged)
 
-  pub settle-done : {d : Settled} {settled steps flag : ℕ} → a ≡ S.Done d → flag ≡ flagOf (d .settled) → SettledRun r cells up down t out next settled flag steps (d .steps) 0 0
+  pub settle-done : {d : Settled} {settled steps flag : ℕ} → a ≡ S.Done d → flag ≡ flagOf (d .settled) → SettledRun r caps cells up down t out next settled flag steps (d .steps) 0 0
   settle-done {d} e q =
       let m = meaning-along Settle.meaning e (settles .means) in
       record {
@@ -81,7 +81,7 @@ module _ {r : Road} {cells : List ℕ} {up down t : ℕ} {out next : List ℕ} {
         settlement = λ z. (d .settled, q, settles .settlement d e);
       }
 
-  pub settle-refused : {f : Refusal} {settled steps : ℕ} → a ≡ S.Refused f → SettledRun r cells up down t out next settled settled steps steps (f .place) (f .number)
+  pub settle-refused : {f : Refusal} {settled steps : ℕ} → a ≡ S.Refused f → SettledRun r caps cells up down t out next settled settled steps steps (f .place) (f .number)
   unfolding settleAnswer settleMeaning
   settle-refused {f} e =
       let m = meaning-along Settle.meaning e (settles .means) in

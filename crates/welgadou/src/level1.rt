@@ -10,7 +10,7 @@ use scheme::Totals;
 // 0, with the cells after the horizon's steps in `out`, their units in `entered` and `left`, both totals increased by these
 // and 0 in `place`; or the refusal's number with its place, and nothing else written.
 #[no_mangle]
-pub extern "C" fn welgadou_forecast_2(
+pub extern "C" fn welgadou_forecast_3(
     divisor: u32,
     free: u32,
     wave: u32,
@@ -20,6 +20,7 @@ pub extern "C" fn welgadou_forecast_2(
     upstream: &[u32],
     downstream: &[u32],
     horizon: u32,
+    caps: &[u32],
     out: &mut [u32],
     entered: &mut u64,
     left: &mut u64,
@@ -27,7 +28,7 @@ pub extern "C" fn welgadou_forecast_2(
     total_left: &mut u64,
     place: &mut u32,
 ) -> u32
-    ensures { λ n. ⌜ Forecasted (roadOf divisor free wave jam critical) (now (cells .entry)) (now (upstream .entry)) (now (downstream .entry)) horizon (now (out .entry)) (now (out .exit)) (now (entered .entry)) (now (entered .exit)) (now (left .entry)) (now (left .exit)) (totalsOf (now («total_entered» .entry)) (now («total_left» .entry))) (totalsOf (now («total_entered» .exit)) (now («total_left» .exit))) (now (place .exit)) n ⌝ }
+    ensures { λ n. ⌜ Forecasted (roadOf divisor free wave jam critical) (now (caps .entry)) (now (cells .entry)) (now (upstream .entry)) (now (downstream .entry)) horizon (now (out .entry)) (now (out .exit)) (now (entered .entry)) (now (entered .exit)) (now (left .entry)) (now (left .exit)) (totalsOf (now («total_entered» .entry)) (now («total_left» .entry))) (totalsOf (now («total_entered» .exit)) (now («total_left» .exit))) (now (place .exit)) n ⌝ }
 {
     let road = Road {
         divisor,
@@ -40,7 +41,16 @@ pub extern "C" fn welgadou_forecast_2(
         entered: *total_entered,
         left: *total_left,
     };
-    match forecast::forecast(road, cells, upstream, downstream, horizon, totals, out) {
+    match forecast::forecast(
+        road,
+        cells,
+        upstream,
+        downstream,
+        horizon,
+        caps,
+        totals,
+        out,
+    ) {
         ForecastAnswer::Done(d) => {
             *entered = d.own.entered;
             *left = d.own.left;
@@ -59,7 +69,7 @@ pub extern "C" fn welgadou_forecast_2(
 // 0, with the state in `out`, 1 in `settled` where the run settled and 0 where not, the steps made in `steps` and 0 in
 // `place`; or the refusal's number with its place, and nothing else written.
 #[no_mangle]
-pub extern "C" fn welgadou_settle(
+pub extern "C" fn welgadou_settle_2(
     divisor: u32,
     free: u32,
     wave: u32,
@@ -69,12 +79,13 @@ pub extern "C" fn welgadou_settle(
     upstream: u32,
     downstream: u32,
     horizon: u32,
+    caps: &[u32],
     out: &mut [u32],
     settled: &mut u32,
     steps: &mut u32,
     place: &mut u32,
 ) -> u32
-    ensures { λ n. ⌜ SettledRun (roadOf divisor free wave jam critical) (now (cells .entry)) upstream downstream horizon (now (out .entry)) (now (out .exit)) (now (settled .entry)) (now (settled .exit)) (now (steps .entry)) (now (steps .exit)) (now (place .exit)) n ⌝ }
+    ensures { λ n. ⌜ SettledRun (roadOf divisor free wave jam critical) (now (caps .entry)) (now (cells .entry)) upstream downstream horizon (now (out .entry)) (now (out .exit)) (now (settled .entry)) (now (settled .exit)) (now (steps .entry)) (now (steps .exit)) (now (place .exit)) n ⌝ }
 {
     let road = Road {
         divisor,
@@ -83,7 +94,7 @@ pub extern "C" fn welgadou_settle(
         jam,
         critical,
     };
-    match forecast::settle(road, cells, upstream, downstream, horizon, out) {
+    match forecast::settle(road, cells, upstream, downstream, horizon, caps, out) {
         SettleAnswer::Done(s) => {
             *settled = flag(s.settled);
             *steps = s.steps;

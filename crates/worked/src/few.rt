@@ -38,6 +38,8 @@ pub const ABOVE_EMPTY: u8 = 23;
 
 pub const ABOVE_ABOVE: u8 = 24;
 
+pub const TWO_300: u8 = 25;
+
 // Three densities: of the document's worked case, with some of them above J, and nearly empty.
 pub const CELLS: u8 = 30;
 
@@ -49,12 +51,18 @@ pub const ABOVE_AT_2_AND_3: u8 = 33;
 
 pub const FEW_UNITS: u8 = 34;
 
+// So many, or the most there can be.
+pub fn within(n: usize, most: usize) -> usize
+    ensures { λ r. ⌜ r ≤ most ⌝ }
+{
+    if n < most { n } else { most }
+}
+
 // The tens of a name, or the most there can be.
 pub fn tens(name: u8, most: usize) -> usize
     ensures { λ r. ⌜ r ≤ most ⌝ }
 {
-    let tens = (name / 10) as usize;
-    if tens < most { tens } else { most }
+    within((name / 10) as usize, most)
 }
 
 // How many densities the list of a name has.
@@ -83,6 +91,7 @@ pub fn list(name: u8) -> [u32; 3]
         FULL_ABOVE => [1000, 1001, 0],
         ABOVE_EMPTY => [1001, 0, 0],
         ABOVE_ABOVE => [1001, 1001, 0],
+        TWO_300 => [300, 300, 0],
         CELLS => [300, 150, 700],
         ABOVE_AT_2 => [300, 1001, 700],
         ABOVE_AT_3 => [300, 150, 1001],

@@ -9,7 +9,7 @@ pub const CELLS: usize = Road::CELLS as usize + 1;
 
 pub const ENDS: usize = Road::HORIZON as usize + 1;
 
-const CODES: usize = CELLS + 1;
+const FACES: usize = CELLS + 1;
 
 // One cell more than the ceiling.
 pub fn cells(density: u32) -> [u32; CELLS]
@@ -26,8 +26,15 @@ pub fn ends(density: u32) -> [u32; ENDS]
 }
 
 // One letter more than the ceiling of cells has faces.
-pub fn codes() -> [u8; CODES]
+pub fn codes() -> [u8; FACES]
     ensures { λ r. ⌜ cellsCeiling + 2 ≡ length r ⌝ }
 {
-    [7u8; CODES]
+    [7u8; FACES]
+}
+
+// One cap more than the ceiling of cells has faces.
+pub fn caps(cap: u32) -> [u32; FACES]
+    ensures { λ r. ⌜ cellsCeiling + 2 ≡ length r ⌝ }
+{
+    [cap; FACES]
 }

@@ -79,22 +79,23 @@ impl PartialOrd for Whole {
     }
 }
 
-/// The exact densities after the given steps times D to the power of their number, and that power.
-pub fn run(road: [u32; 5], cells: &[u32], up: &[u32], down: &[u32]) -> (Vec<Whole>, Whole) {
+/// The exact densities after the given steps times D to the power of their number, and that power. With the power Z before
+/// a step, a face moves "the smaller of document 01's f and cap × D × Z".
+pub fn run(road: [u32; 5], caps: &[u32], cells: &[u32], up: &[u32], down: &[u32]) -> (Vec<Whole>, Whole) {
     let [d, p, q, j, c] = road;
     let mut z = Whole::new(1);
     let mut x: Vec<Whole> = cells.iter().map(|&cell| Whole::new(cell)).collect();
     for t in 0..up.len() {
-        let (critical, jam) = (z.times(c), z.times(j));
-        let flow = |a: &Whole, b: &Whole| {
+        let (critical, jam, unit) = (z.times(c), z.times(j), z.times(d));
+        let flow = |a: &Whole, b: &Whole, cap: u32| {
             let sent = a.min(&critical).times(p);
             let taken = jam.minus(b.max(&critical)).times(q);
-            sent.min(taken)
+            sent.min(taken).min(unit.times(cap))
         };
         let mut all = vec![z.times(up[t])];
         all.extend(x.iter().cloned());
         all.push(z.times(down[t]));
-        let f: Vec<Whole> = all.windows(2).map(|pair| flow(&pair[0], &pair[1])).collect();
+        let f: Vec<Whole> = all.windows(2).zip(caps).map(|(pair, &cap)| flow(&pair[0], &pair[1], cap)).collect();
         x = (0..x.len()).map(|i| x[i].times(d).plus(&f[i]).minus(&f[i + 1])).collect();
         z = z.times(d);
     }

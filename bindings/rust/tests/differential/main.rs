@@ -12,11 +12,11 @@ mod reference;
 
 use exact::Whole;
 use random::Random;
-use reference::{Forecast, Ranking, Reading, Refused, Station, Units};
+use reference::{Forecast, Ranking, Reading, Refused, Settled, Station, Units};
 use std::collections::BTreeMap;
 use std::env;
 use std::thread;
-use welgadou::{Fit, Moved, Refusal, Road, StationReading, Totals};
+use welgadou::{Fit, Moved, Refusal, Road, StationReading, Totals, OPEN};
 
 fn road_of([divisor, free, wave, jam, critical]: [u32; 5]) -> Road {
     Road { divisor, free, wave, jam, critical }
@@ -32,6 +32,11 @@ fn pair_of(refusal: Refusal) -> Refused {
 
 fn own_of(answer: Result<Moved, Refusal>) -> Result<Units, Refused> {
     answer.map(|moved| [moved.entered, moved.left]).map_err(pair_of)
+}
+
+/// The caps of a road of so many cells without roadworks.
+fn open(n: usize) -> Vec<u32> {
+    vec![OPEN; n + 1]
 }
 
 /// The crate and the archive are of one version.
@@ -91,7 +96,7 @@ fn kind_of<V>(answer: &Result<V, Refused>, word: impl FnOnce(&V) -> &'static str
     }
 }
 
-/// How many faults to put into an input: mostly none, sometimes several, so that the lowest number must be found.
+/// How many faults to put into an input: mostly none, sometimes several, so that the first number must be found.
 fn faults(g: &mut Random) -> usize {
     g.of(&[0, 0, 0, 0, 0, 1, 1, 1, 2, 3])
 }
@@ -99,27 +104,29 @@ fn faults(g: &mut Random) -> usize {
 // Level 1.
 
 /// What a forecast answers, the same as C makes it, by the safe function and by the reference.
+#[allow(clippy::too_many_arguments)]
 fn forecast(
     road: [u32; 5],
     cells: &[u32],
     up: &[u32],
     down: &[u32],
     horizon: u32,
+    caps: &[u32],
     totals: Units,
     out: usize,
 ) -> Result<Forecast, Refused> {
-    let expected = reference::forecast(road, cells, up, down, horizon, totals, out);
+    let expected = reference::forecast(road, cells, up, down, horizon, caps, totals, out);
     let input = || {
-        let lists = format!("cells {cells:?}, up {up:?}, down {down:?}");
+        let lists = format!("cells {cells:?}, up {up:?}, down {down:?}, caps {caps:?}");
         format!("road {road:?}, {lists}, horizon {horizon}, totals {totals:?}, out {out}")
     };
 
     let as_c = expected.clone().map(|done| (done.cells, done.own, done.totals));
-    assert_eq!(raw::forecast(road, cells, up, down, horizon, totals, out), as_c, "{}", input());
+    assert_eq!(raw::forecast(road, cells, up, down, horizon, caps, totals, out), as_c, "{}", input());
 
     let before = (vec![0x5a5a_5a5a; out], totals_of(totals));
     let mut outputs = before.clone();
-    let by_rust = welgadou::forecast(&road_of(road), cells, up, down, horizon, &mut outputs.1, &mut outputs.0);
+    let by_rust = welgadou::forecast(&road_of(road), cells, up, down, horizon, caps, &mut outputs.1, &mut outputs.0);
     assert_eq!(own_of(by_rust), expected.clone().map(|done| done.own), "{}", input());
     let after = expected.clone().map_or(before, |done| (done.cells, totals_of(done.totals)));
     assert_eq!(outputs, after, "{}", input());
@@ -138,10 +145,12 @@ fn one_forecast(g: &mut Random, work: usize) -> Kind {
     let mut cells = random::densities(g, &road, n);
     let mut up = random::densities(g, &road, horizon as usize);
     let mut down = random::densities(g, &road, horizon as usize);
+    let first_end = |ends: &[u32]| ends.first().copied().unwrap_or(0);
+    let mut caps = random::caps(g, &road, &cells, first_end(&up), first_end(&down));
     let mut out = n;
     let good = road;
     for _ in 0..faults(g) {
-        match g.below(9) {
+        match g.below(10) {
             0 => random::damage_road(g, &mut road),
             1 => {
                 let length = g.of(&[0, 0, 257, 258, 300, 1000, 70_000]);
@@ -168,13 +177,17 @@ fn one_forecast(g: &mut Random, work: usize) -> Kind {
             5 => out = random::other_length(g, out),
             6 => random::damage_values(g, &good, &mut cells),
             7 => random::damage_values(g, &good, &mut up),
-            _ => random::damage_values(g, &good, &mut down),
+            8 => random::damage_values(g, &good, &mut down),
+            _ => {
+                let length = random::other_length(g, caps.len());
+                random::resize(g, &mut caps, length);
+            }
         }
     }
-    // With a fault there are no units of its own, and a full total is mostly the largest: the lower number must win.
-    let own = reference::forecast(road, &cells, &up, &down, horizon, [0, 0], out).map_or([0, 0], |done| done.own);
-    let totals = random::totals(g, own);
-    let answer = forecast(road, &cells, &up, &down, horizon, totals, out);
+    // With a fault there are no units of its own, and a full total is mostly the largest: the earlier check must win.
+    let own_from_0 = reference::forecast(road, &cells, &up, &down, horizon, &caps, [0, 0], out);
+    let totals = random::totals(g, own_from_0.map_or([0, 0], |done| done.own));
+    let answer = forecast(road, &cells, &up, &down, horizon, &caps, totals, out);
     kind_of(&answer, |done| match (done.totals.contains(&u64::MAX), done.cells == cells) {
         (true, _) => " with a full total",
         (false, true) => " as before",
@@ -182,7 +195,7 @@ fn one_forecast(g: &mut Random, work: usize) -> Kind {
     })
 }
 
-const FORECAST: [u32; 12] = [1, 2, 3, 4, 5, 6, 7, 8, 9, 10, 11, 19];
+const FORECAST: [u32; 13] = [1, 2, 3, 4, 5, 6, 7, 8, 20, 9, 10, 11, 19];
 const FORECAST_WORDS: [&str; 3] = [" as before", " changed", " with a full total"];
 
 #[test]
@@ -202,7 +215,8 @@ fn one_full_total(g: &mut Random, full: [bool; 2]) -> Kind {
     let (n, steps) = (1 + g.below(8), g.below(13));
     let cells = random::densities(g, &road, n);
     let (up, down) = (random::densities(g, &road, steps), random::densities(g, &road, steps));
-    let answer_from = |totals| forecast(road, &cells, &up, &down, steps as u32, totals, n);
+    let caps = random::caps(g, &road, &cells, road[4], road[4]);
+    let answer_from = |totals| forecast(road, &cells, &up, &down, steps as u32, &caps, totals, n);
 
     let own = answer_from([0, 0]).expect("accepted").own;
     let mut total = |i: usize| match full[i] {
@@ -237,12 +251,88 @@ fn faces() {
         let (a, b) = (random::near_half(g, &road, free), jam - random::near_half(g, &road, wave));
         let r = reference::Road::new(road);
         let flow = reference::numerator(&r, i128::from(a), i128::from(b));
-        let (_, [entered, _], _) = raw::forecast(road, &[b], &[a], &[jam], 1, [0, 0], 1).expect("accepted");
+        let (_, [entered, _], _) = raw::forecast(road, &[b], &[a], &[jam], 1, &open(1), [0, 0], 1).expect("accepted");
         assert_eq!(i128::from(entered), reference::units(&r, flow), "road {road:?}, the units of ({a}, {b})");
         let twice = 2 * (flow % r.d);
         let kinds = [(twice == 0, " whole"), (twice < r.d, " below a half"), (twice == r.d, " a half")];
         (0, kinds.iter().find(|kind| kind.0).map_or(" above a half", |kind| kind.1))
     });
+}
+
+/// A single face with a cap, before the cells, after them and between the two that there are: the neighbouring faces have
+/// other caps, which must not count.
+#[test]
+fn capped_faces() {
+    let words = [" closed", " below the flow", " the flow", " above the flow", " from 2^31 on", " open"];
+    cases("capped face", 100_000, &[], &words, |g| {
+        let road = random::good_road(g);
+        let (a, b) = (random::density(g, &road), random::density(g, &road));
+        let cap = random::cap(g, &road, a, b);
+        let others = [(); 2].map(|()| g.of(&[0, OPEN, cap.saturating_sub(1), cap.saturating_add(1)]));
+        let r = reference::Road::new(road);
+        let flow = reference::units(&r, reference::numerator(&r, i128::from(a), i128::from(b)));
+        let moved = flow.min(i128::from(cap));
+        let input = || format!("road {road:?}, the face ({a}, {b}) with cap {cap} beside {others:?}");
+
+        let one_step = |cells: &[u32], up, down, caps: &[u32]| {
+            let (cells, own, _) = raw::forecast(road, cells, &[up], &[down], 1, caps, [0, 0], cells.len())?;
+            Ok::<_, Refused>((cells, own.map(i128::from)))
+        };
+        let (_, [entered, _]) = one_step(&[b], a, 0, &[cap, others[0]]).expect("accepted");
+        assert_eq!(entered, moved, "first: {}", input());
+        let (_, [_, left]) = one_step(&[a], 0, b, &[others[0], cap]).expect("accepted");
+        assert_eq!(left, moved, "last: {}", input());
+        let (cells, [entered, left]) = one_step(&[a, b], 0, 0, &[others[0], cap, others[1]]).expect("accepted");
+        assert_eq!(i128::from(a) + entered - i128::from(cells[0]), moved, "between: {}", input());
+        assert_eq!(i128::from(cells[1]) + left - i128::from(b), moved, "between: {}", input());
+
+        let kinds = [
+            (cap == 0, " closed"),
+            (cap == OPEN, " open"),
+            (cap >= 1 << 31, " from 2^31 on"),
+            (i128::from(cap) < flow, " below the flow"),
+            (i128::from(cap) == flow, " the flow"),
+        ];
+        (0, kinds.iter().find(|kind| kind.0).map_or(" above the flow", |kind| kind.1))
+    });
+}
+
+/// What a settling run answers, the same as C makes it, by the safe function and by the reference.
+fn settle(
+    road: [u32; 5],
+    cells: &[u32],
+    up: u32,
+    down: u32,
+    horizon: u32,
+    caps: &[u32],
+    out: usize,
+) -> Result<Settled, Refused> {
+    let expected = reference::settle(road, cells, up, down, horizon, caps, out);
+    let input = || {
+        let lists = format!("cells {cells:?}, caps {caps:?}");
+        format!("road {road:?}, {lists}, up {up}, down {down}, horizon {horizon}, out {out}")
+    };
+
+    let by_c = raw::settle(road, cells, up, down, horizon, caps, out).map(|(cells, settled, steps)| {
+        assert!(settled <= 1, "{}", input());
+        Settled { cells, settled: settled == 1, steps }
+    });
+    assert_eq!(by_c, expected, "{}", input());
+
+    let mut buffer = vec![0x5a5a_5a5a; out];
+    let by_rust = welgadou::settle(&road_of(road), cells, up, down, horizon, caps, &mut buffer);
+    match &expected {
+        Ok(done) => {
+            let report = welgadou::Settlement { settled: done.settled, steps: done.steps };
+            assert_eq!(by_rust, Ok(report), "{}", input());
+            assert_eq!(buffer, done.cells, "{}", input());
+        }
+        Err(refused) => {
+            assert_eq!(by_rust.map_err(pair_of), Err(*refused), "{}", input());
+            assert!(buffer.iter().all(|&x| x == 0x5a5a_5a5a), "{}", input());
+        }
+    }
+    expected
 }
 
 fn one_settle(g: &mut Random, work: usize) -> Kind {
@@ -256,10 +346,11 @@ fn one_settle(g: &mut Random, work: usize) -> Kind {
     };
     let mut cells = random::densities(g, &road, n);
     let (mut up, mut down) = (random::density(g, &road), random::density(g, &road));
+    let mut caps = random::caps(g, &road, &cells, up, down);
     let mut out = n;
     let good = road;
     for _ in 0..faults(g) {
-        match g.below(7) {
+        match g.below(8) {
             0 => random::damage_road(g, &mut road),
             1 => {
                 let length = g.of(&[0, 0, 257, 258, 300, 1000, 70_000]);
@@ -272,39 +363,22 @@ fn one_settle(g: &mut Random, work: usize) -> Kind {
             3 => out = random::other_length(g, out),
             4 => random::damage_values(g, &good, &mut cells),
             5 => up = random::above(g, &good),
-            _ => down = random::above(g, &good),
+            6 => down = random::above(g, &good),
+            _ => {
+                let length = random::other_length(g, caps.len());
+                random::resize(g, &mut caps, length);
+            }
         }
     }
-    let expected = reference::settle(road, &cells, up, down, horizon, out);
-    let input = || format!("road {road:?}, cells {cells:?}, up {up}, down {down}, horizon {horizon}, out {out}");
-
-    let by_c = raw::settle(road, &cells, up, down, horizon, out).map(|(cells, settled, steps)| {
-        assert!(settled <= 1, "{}", input());
-        reference::Settled { cells, settled: settled == 1, steps }
-    });
-    assert_eq!(by_c, expected, "{}", input());
-
-    let mut buffer = vec![0x5a5a_5a5a; out];
-    let by_rust = welgadou::settle(&road_of(road), &cells, up, down, horizon, &mut buffer);
-    match &expected {
-        Ok(done) => {
-            let report = welgadou::Settlement { settled: done.settled, steps: done.steps };
-            assert_eq!(by_rust, Ok(report), "{}", input());
-            assert_eq!(buffer, done.cells, "{}", input());
-        }
-        Err(refused) => {
-            assert_eq!(by_rust.map_err(pair_of), Err(*refused), "{}", input());
-            assert!(buffer.iter().all(|&x| x == 0x5a5a_5a5a), "{}", input());
-        }
-    }
-    kind_of(&expected, |done| match (done.settled, done.steps) {
+    let answer = settle(road, &cells, up, down, horizon, &caps, out);
+    kind_of(&answer, |done| match (done.settled, done.steps) {
         (true, 0) => " settled at once",
         (true, _) => " settled",
         (false, _) => " unsettled",
     })
 }
 
-const SETTLE: [u32; 10] = [1, 2, 3, 4, 5, 6, 8, 9, 10, 11];
+const SETTLE: [u32; 11] = [1, 2, 3, 4, 5, 6, 8, 20, 9, 10, 11];
 const SETTLE_WORDS: [&str; 3] = [" settled at once", " settled", " unsettled"];
 
 #[test]
@@ -461,27 +535,43 @@ fn row_predictions() {
     });
 }
 
-/// With its own word a state's rows are the exact step, and D times the rounded density is less than D away.
+/// The cells, counted from 0, of which neither face's numerator exceeds its cap × D.
+fn uncapped(road: [u32; 5], cells: &[u32], up: u32, down: u32, caps: &[u32]) -> Vec<usize> {
+    let r = reference::Road::new(road);
+    let numerators = reference::numerators(&r, &reference::wide(cells), i128::from(up), i128::from(down));
+    let within = |face: usize| numerators[face] <= i128::from(caps[face]) * r.d;
+    (0..cells.len()).filter(|&i| within(i) && within(i + 1)).collect()
+}
+
+/// With its own word a state's rows are the exact step, and D times the rounded density is less than D away: with any caps
+/// at each cell that has neither face's cap in the way, with open caps at every cell.
 #[test]
 fn own_rows_are_the_exact_step() {
-    cases("own rows", 20_000, &[], &[""], |g| {
+    let words = [" open", " capped nowhere", " capped at some cells", " capped at all cells"];
+    cases("own rows", 40_000, &[], &words, |g| {
         let road = random::good_road(g);
         let n = random::size(g);
         let cells = random::densities(g, &road, n);
         let (up, down) = (random::density(g, &road), random::density(g, &road));
+        let caps = random::caps(g, &road, &cells, up, down);
         let (mut values, mut next) = (vec![0; n], vec![0; n]);
         let r = &road_of(road);
         let own = read(road, &cells, up, down, n + 1, n).expect("accepted");
         welgadou::rows(r, &cells, up, down, &own.letters, &mut values).expect("accepted");
-        welgadou::forecast(r, &cells, &[up], &[down], 1, &mut Totals::default(), &mut next).expect("accepted");
-        let (exact, _) = exact::run(road, &cells, &[up], &[down]);
-        for i in 0..n {
+        welgadou::forecast(r, &cells, &[up], &[down], 1, &caps, &mut Totals::default(), &mut next).expect("accepted");
+        let (exact, _) = exact::run(road, &caps, &cells, &[up], &[down]);
+        let promised = uncapped(road, &cells, up, down, &caps);
+        for &i in &promised {
             let value = u32::try_from(values[i]).expect("an own row is no density times the divisor");
-            assert_eq!(Whole::new(value), exact[i], "cell {} of {cells:?}", i + 1);
+            assert_eq!(Whole::new(value), exact[i], "cell {} of {cells:?}, caps {caps:?}", i + 1);
             let rounded = i64::from(next[i]) * i64::from(road[0]);
-            assert!((rounded - values[i]).abs() < i64::from(road[0]), "cell {} of {cells:?}", i + 1);
+            assert!((rounded - values[i]).abs() < i64::from(road[0]), "cell {} of {cells:?}, caps {caps:?}", i + 1);
         }
-        (0, "")
+        if caps == open(n) {
+            assert_eq!(promised.len(), n, "road {road:?}, cells {cells:?}, up {up}, down {down}");
+            return (0, " open");
+        }
+        (0, words[if promised.is_empty() { 3 } else { 1 + usize::from(promised.len() < n) }])
     });
 }
 
@@ -751,26 +841,29 @@ fn nearest_modes_of_every_small_state() {
 
 // Demand 3 and what follows.
 
+/// With open caps, with caps that change nothing, and with caps that bind.
 #[test]
 fn demand_3() {
-    cases("demand 3", 20_000, &[], &[" exact", " off by rounding"], |g| {
+    let words = [" exact", " exact, capped", " off by rounding", " off by rounding, capped"];
+    cases("demand 3", 40_000, &[], &words, |g| {
         let road = random::good_road(g);
         let [divisor, _, _, jam, _] = road;
         let (n, steps) = (1 + g.below(8), g.below(13));
         let cells = random::densities(g, &road, n);
         let (up, down) = (random::densities(g, &road, steps), random::densities(g, &road, steps));
+        let caps = random::caps(g, &road, &cells, road[4], road[4]);
         // The balance is that of the forecast's own units, whatever the totals.
         let mut totals = Totals { entered: g.bits() / 2, left: g.bits() / 2 };
         let mut out = vec![u32::MAX; n];
-        let answer = welgadou::forecast(&road_of(road), &cells, &up, &down, steps as u32, &mut totals, &mut out);
+        let answer = welgadou::forecast(&road_of(road), &cells, &up, &down, steps as u32, &caps, &mut totals, &mut out);
         let moved = answer.expect("accepted");
-        let input = || format!("road {road:?}, cells {cells:?}, up {up:?}, down {down:?}");
+        let input = || format!("road {road:?}, cells {cells:?}, up {up:?}, down {down:?}, caps {caps:?}");
 
         assert!(out.iter().all(|&x| x <= jam), "{}", input());
         let sum = |list: &[u32]| list.iter().map(|&x| u64::from(x)).sum::<u64>();
         assert_eq!(sum(&cells) + moved.entered, sum(&out) + moved.left, "{}", input());
 
-        let (exact, z) = exact::run(road, &cells, &up, &down);
+        let (exact, z) = exact::run(road, &caps, &cells, &up, &down);
         let mut distance = Whole::new(0);
         for i in 0..n {
             assert!(exact[i] <= z.times(jam), "{}", input());
@@ -778,7 +871,9 @@ fn demand_3() {
         }
         let bound = z.times((n * steps) as u32).times(divisor - 1);
         assert!(distance.times(divisor) <= bound, "{}", input());
-        (0, if distance == Whole::new(0) { " exact" } else { " off by rounding" })
+        let off = usize::from(distance != Whole::new(0));
+        let capped = usize::from(exact != exact::run(road, &open(n), &cells, &up, &down).0);
+        (0, words[2 * off + capped])
     });
 }
 
@@ -793,28 +888,31 @@ fn one_step_at_a_time() {
         let steps = g.below(longest + 1);
         let start = random::densities(g, &road, n);
         let [up, down] = [(); 2].map(|()| random::densities(g, &road, steps));
-        let whole_from = |totals| raw::forecast(road, &start, &up, &down, steps as u32, totals, n);
+        let caps = random::caps(g, &road, &start, road[4], road[4]);
+        let whole_from = |totals| raw::forecast(road, &start, &up, &down, steps as u32, &caps, totals, n);
         let (_, own, _) = whole_from([0, 0]).expect("accepted");
         let totals = random::totals(g, own);
 
         let mut stepwise = Ok((start.clone(), [0, 0], totals));
         for (&u, &d) in up.iter().zip(&down) {
             stepwise = stepwise.and_then(|(cells, own, totals)| {
-                let (cells, more, totals) = raw::forecast(road, &cells, &[u], &[d], 1, totals, n)?;
+                let (cells, more, totals) = raw::forecast(road, &cells, &[u], &[d], 1, &caps, totals, n)?;
                 Ok((cells, [own[0] + more[0], own[1] + more[1]], totals))
             });
         }
         let whole = whole_from(totals);
-        assert_eq!(whole, stepwise, "road {road:?}, cells {start:?}, up {up:?}, down {down:?}, totals {totals:?}");
+        let lists = || format!("cells {start:?}, up {up:?}, down {down:?}, caps {caps:?}");
+        assert_eq!(whole, stepwise, "road {road:?}, {}, totals {totals:?}", lists());
         let most = steps as u64 * u64::from(Road::jam_ceiling());
         let room = totals.iter().all(|&total| u64::MAX - total >= most);
         kind_of(&whole, |_| if room { " with room" } else { " near the largest" })
     });
 }
 
-/// A chain of forecasts as a site makes it: one variable for the totals, which are both `begun` at first, and the last
-/// accepted call's cells. After every call, refused or not, the units at the beginning plus those entered are the units on
-/// the road plus those left. Hands back the numbers of the refused calls, of which some were damaged.
+/// A chain of forecasts as a site makes it: one variable for the totals, which are both `begun` at first, the last
+/// accepted call's cells, and caps that come and go. After every call, refused or not, the units at the beginning plus
+/// those entered are the units on the road plus those left. Hands back the numbers of the refused calls, of which some
+/// were damaged.
 fn chain(g: &mut Random, road: [u32; 5], begun: u64) -> Vec<u32> {
     let units = |cells: &[u32], total: u64| cells.iter().map(|&x| u128::from(x)).sum::<u128>() + u128::from(total);
     let n = random::size(g);
@@ -823,17 +921,19 @@ fn chain(g: &mut Random, road: [u32; 5], begun: u64) -> Vec<u32> {
     for _ in 0..50 {
         let steps = g.from(0, Road::horizon_ceiling() / 8);
         let mut ends = [(); 2].map(|()| random::densities(g, &road, steps as usize));
+        let mut caps = if g.one_in(2) { open(n) } else { random::caps(g, &road, &cells, road[4], road[4]) };
         match g.below(8) {
             side @ 0..=1 => random::damage_values(g, &road, &mut ends[side]),
             2 => ends[0].push(0),
+            3 => caps.truncate(n),
             _ => {}
         }
         let [up, down] = &ends;
-        let expected = reference::forecast(road, &cells, up, down, steps, [totals.entered, totals.left], n);
+        let expected = reference::forecast(road, &cells, up, down, steps, &caps, [totals.entered, totals.left], n);
 
         let before = (cells.clone(), totals);
         let mut next = cells.clone();
-        let answer = welgadou::forecast(&road_of(road), &cells, up, down, steps, &mut totals, &mut next);
+        let answer = welgadou::forecast(&road_of(road), &cells, up, down, steps, &caps, &mut totals, &mut next);
         assert_eq!(own_of(answer), expected.map(|done| done.own), "road {road:?}, from {before:?}");
         if let Err(refusal) = answer {
             assert_eq!((&cells, &next, totals), (&before.0, &before.0, before.1), "road {road:?}, {refusal}");
@@ -888,12 +988,12 @@ fn ceilings() {
 #[test]
 fn roads() {
     for road in random::CORNERS {
-        assert_eq!(raw::settle(road, &[0], 0, 0, 1, 1), Ok((vec![0], 1, 0)), "{road:?}");
+        assert_eq!(raw::settle(road, &[0], 0, 0, 1, &open(1), 1), Ok((vec![0], 1, 0)), "{road:?}");
     }
     for (road, number) in
         [([5, 6, 1, 1000, 200], 2), ([5, 4, 1, 1000, 1000], 3), ([5, 4, 1, 1000, 201], 4), ([0, 4, 1, 1, 200], 1)]
     {
-        assert_eq!(raw::settle(road, &[0], 0, 0, 1, 1), Err((number, 0)), "{road:?}");
+        assert_eq!(raw::settle(road, &[0], 0, 0, 1, &open(1), 1), Err((number, 0)), "{road:?}");
     }
 }
 
@@ -912,10 +1012,13 @@ fn road_a() {
     for (a, b, letter, units) in faces {
         let reading = read(ROAD_A, &[b], a, 0, 2, 1).expect("accepted");
         assert_eq!(reading.letters[0], letter, "the letter of ({a}, {b})");
-        let (_, [entered, _], _) = raw::forecast(ROAD_A, &[b], &[a], &[0], 1, [0, 0], 1).expect("accepted");
+        let (_, [entered, _], _) = raw::forecast(ROAD_A, &[b], &[a], &[0], 1, &open(1), [0, 0], 1).expect("accepted");
         assert_eq!(entered, units, "the units of ({a}, {b})");
     }
-    let moved = |cells: &[u32], up: u32| raw::forecast(ROAD_A, cells, &[up], &[0], 1, [0, 0], cells.len());
+    let moved = |cells: &[u32], up: u32| {
+        let n = cells.len();
+        raw::forecast(ROAD_A, cells, &[up], &[0], 1, &open(n), [0, 0], n)
+    };
     assert_eq!(moved(&[101], 0), Ok((vec![20], [0, 81], [0, 81])));
     let cells = [300, 150, 700];
     assert_eq!(moved(&cells, 100), Ok((vec![220, 250, 600], [80, 160], [80, 160])));
@@ -924,7 +1027,7 @@ fn road_a() {
     assert_eq!((reading.counts, reading.queued), ([0, 1, 1, 0, 0, 1, 0], 2));
     assert_eq!(raw::rows(ROAD_A, &cells, 100, 0, &[2, 1, 0, 1], 3), Ok(vec![1100, 1250, 3000]));
     assert_eq!(raw::rows(ROAD_A, &[0], 0, 0, &[2, 0], 1), Ok(vec![-1000]));
-    assert_eq!(raw::settle(ROAD_A, &[2], 0, 0, 9, 1), Ok((vec![0], 1, 1)));
+    assert_eq!(raw::settle(ROAD_A, &[2], 0, 0, 9, &open(1), 1), Ok((vec![0], 1, 1)));
     for (cells, words) in [(0, 3), (1, 7), (2, 16), (5, 182), (10, 10426), (20, 34206521)] {
         assert_eq!(raw::count(cells), Ok(words));
     }
@@ -975,11 +1078,12 @@ fn fixed_halves() {
         ([4096, 4096, 4096, 1_000_000, 500_000], 499_999, 0, 499_999),
     ];
     for (road, a, b, units) in faces {
-        let (_, [entered, _], _) = raw::forecast(road, &[b], &[a], &[0], 1, [0, 0], 1).expect("accepted");
+        let (_, [entered, _], _) = raw::forecast(road, &[b], &[a], &[0], 1, &open(1), [0, 0], 1).expect("accepted");
         assert_eq!(entered, units, "road {road:?}, the units of ({a}, {b})");
     }
-    assert_eq!(raw::forecast(ROAD_A, &[7, 2, 9], &[1], &[0], 1, [0, 0], 3), Ok((vec![2, 6, 4], [1, 7], [1, 7])));
-    assert_eq!(raw::settle([4, 1, 1, 4, 2], &[1], 0, 0, 9, 1), Ok((vec![1], 1, 0)));
+    let three = raw::forecast(ROAD_A, &[7, 2, 9], &[1], &[0], 1, &open(3), [0, 0], 3);
+    assert_eq!(three, Ok((vec![2, 6, 4], [1, 7], [1, 7])));
+    assert_eq!(raw::settle([4, 1, 1, 4, 2], &[1], 0, 0, 9, &open(1), 1), Ok((vec![1], 1, 0)));
 }
 
 /// The request on totals. On road A cell 101 takes 80 units from an end of 100, and lets 81 go to an end of 0.
@@ -995,7 +1099,7 @@ fn fixed_totals() {
     ];
     for (so_far, totals) in accepted {
         let done = Forecast { cells: vec![100], own: [80, 81], totals };
-        assert_eq!(forecast(ROAD_A, &[101], &[100], &[0], 1, so_far, 1), Ok(done), "from {so_far:?}");
+        assert_eq!(forecast(ROAD_A, &[101], &[100], &[0], 1, &open(1), so_far, 1), Ok(done), "from {so_far:?}");
     }
     let refused = [
         [LARGEST - 79, 0],
@@ -1005,7 +1109,7 @@ fn fixed_totals() {
         [LARGEST, LARGEST],
     ];
     for so_far in refused {
-        assert_eq!(forecast(ROAD_A, &[101], &[100], &[0], 1, so_far, 1), Err((19, 0)), "from {so_far:?}");
+        assert_eq!(forecast(ROAD_A, &[101], &[100], &[0], 1, &open(1), so_far, 1), Err((19, 0)), "from {so_far:?}");
     }
 
     // A full total stays as it is where no unit moves: over no end, over the other end alone, in no step.
@@ -1019,7 +1123,7 @@ fn fixed_totals() {
         (0, vec![100], vec![1000], full, Err((19, 0))),
     ];
     for (cell, up, down, so_far, own) in unmoved {
-        let answer = forecast(ROAD_A, &[cell], &up, &down, up.len() as u32, so_far, 1);
+        let answer = forecast(ROAD_A, &[cell], &up, &down, up.len() as u32, &open(1), so_far, 1);
         assert_eq!(answer.map(|done| done.own), own, "cell {cell}, up {up:?}, down {down:?}, from {so_far:?}");
     }
 
@@ -1039,10 +1143,76 @@ fn fixed_totals() {
     ];
     for (road, cells, up, down, horizon, out, refusal) in faulty {
         for so_far in [empty, full] {
-            let answer = forecast(road, &cells, &up, &down, horizon, so_far, out);
+            let answer = forecast(road, &cells, &up, &down, horizon, &open(cells.len()), so_far, out);
             assert_eq!(answer, Err(refusal), "from {so_far:?}");
         }
     }
+}
+
+/// The request on roadworks, on road A: forecasts, with the exact densities times the divisor after one step; settling
+/// runs; the rows' promise at its bound; and where 20 stands in the order of checks.
+#[test]
+fn fixed_caps() {
+    let cells = [300, 150, 700];
+    let one_step = [
+        (0, vec![101], vec![9, 30], vec![71], [0, 30], vec![355]),
+        (0, vec![101], vec![9, 80], vec![21], [0, 80], vec![105]),
+        (0, vec![101], vec![9, 81], vec![20], [0, 81], vec![101]),
+        (100, cells.to_vec(), vec![80, 160, 60, 160], vec![220, 250, 600], [80, 160], vec![1100, 1250, 3000]),
+        (100, cells.to_vec(), vec![79, 160, 60, 160], vec![219, 250, 600], [79, 160], vec![1095, 1250, 3000]),
+        (100, cells.to_vec(), vec![OPEN, 50, OPEN, 100], vec![330, 140, 660], [80, 100], vec![1650, 700, 3300]),
+        (1000, vec![300], vec![2_147_483_648, 2_147_483_653], vec![280], [140, 160], vec![1400]),
+    ];
+    for (up, cells, caps, next, own, times_divisor) in one_step {
+        let n = cells.len();
+        let done = Forecast { cells: next, own, totals: own };
+        assert_eq!(forecast(ROAD_A, &cells, &[up], &[0], 1, &caps, [0, 0], n), Ok(done), "caps {caps:?}");
+        let whole: Vec<Whole> = times_divisor.into_iter().map(Whole::new).collect();
+        assert_eq!(exact::run(ROAD_A, &caps, &cells, &[up], &[0]).0, whole, "caps {caps:?}");
+    }
+    let three_steps = Forecast { cells: vec![390, 98, 602], own: [240, 300], totals: [240, 300] };
+    let narrowed = [OPEN, 50, OPEN, 100];
+    assert_eq!(forecast(ROAD_A, &cells, &[100; 3], &[0; 3], 3, &narrowed, [0, 0], 3), Ok(three_steps));
+    let closed = Forecast { cells: cells.to_vec(), own: [0, 0], totals: [0, 0] };
+    assert_eq!(forecast(ROAD_A, &cells, &[100; 2], &[0; 2], 2, &[0; 4], [0, 0], 3), Ok(closed));
+
+    let still = |cells: &[u32]| Ok(Settled { cells: cells.to_vec(), settled: true, steps: 0 });
+    assert_eq!(settle(ROAD_A, &cells, 100, 0, 2, &[0; 4], 3), still(&cells));
+    assert_eq!(settle(ROAD_A, &[300, 300], 1000, 0, 9, &[50; 3], 2), still(&[300, 300]));
+
+    // The numerators are 0, 404 of the one cell and 400, 800, 300, 800 of the three: at cap x divisor a row still is the
+    // exact step, above it the row stays and the step does not.
+    assert_eq!(raw::rows(ROAD_A, &[101], 0, 0, &[2, 2], 1), Ok(vec![101]));
+    assert_eq!(uncapped(ROAD_A, &[101], 0, 0, &[0, 81]), [0]);
+    assert!(uncapped(ROAD_A, &[101], 0, 0, &[0, 80]).is_empty());
+    assert_eq!(uncapped(ROAD_A, &cells, 100, 0, &[80, 160, 60, 160]), [0, 1, 2]);
+    assert_eq!(uncapped(ROAD_A, &cells, 100, 0, &[79, 160, 60, 160]), [1, 2]);
+    assert_eq!(uncapped(ROAD_A, &cells, 100, 0, &[80, 160, 59, 160]), [0]);
+
+    // 20 comes after 8 and before 9, 10, 11 and 19; a list of no caps is no list of open ones.
+    let full = [u64::MAX, u64::MAX];
+    let refused = [
+        (vec![1001], 0, 0, vec![9], 1, (20, 0)),
+        (vec![1001], 0, 0, vec![9], 2, (8, 0)),
+        (vec![1001], 0, 0, vec![9, 9], 1, (9, 1)),
+        (vec![101], 1001, 1001, vec![9], 1, (20, 0)),
+        (vec![101], 1001, 1001, vec![9, 9], 1, (10, 0)),
+        (vec![101], 0, 1001, vec![9, 9], 1, (11, 0)),
+        (vec![101], 0, 0, vec![], 1, (20, 0)),
+        (vec![101], 0, 0, vec![OPEN], 1, (20, 0)),
+        (vec![101], 0, 0, vec![OPEN; 3], 1, (20, 0)),
+        (vec![], 0, 0, vec![OPEN], 0, (5, 0)),
+    ];
+    for (cells, up, down, caps, out, refusal) in refused {
+        for so_far in [[0, 0], full] {
+            let answer = forecast(ROAD_A, &cells, &[up], &[down], 1, &caps, so_far, out);
+            assert_eq!(answer, Err(refusal), "cells {cells:?}, caps {caps:?}, out {out}");
+        }
+        let answer = settle(ROAD_A, &cells, up, down, 1, &caps, out);
+        assert_eq!(answer, Err(refusal), "cells {cells:?}, caps {caps:?}, out {out}");
+    }
+    assert_eq!(forecast(ROAD_A, &[101], &[], &[0], 1, &[], full, 1), Err((7, 0)));
+    assert_eq!(forecast(ROAD_A, &[101], &[0], &[0], 1, &[9, 9], full, 1), Err((19, 0)));
 }
 
 /// The cases of the request on stations, to the bit.
@@ -1139,12 +1309,12 @@ fn fixed_nearest() {
 fn refusals_have_words() {
     let text = |number| Refusal { number, place: 3 }.to_string();
     let reason = |number: u32| text(number).split_once(": ").expect("a reason").1.to_string();
-    for number in 1..=19 {
+    for number in 1..=20 {
         assert!(text(number).starts_with(&format!("refusal {number} at ")));
         assert!((1..number).all(|other| reason(other) != reason(number)));
         assert_ne!(reason(number), reason(u32::MAX));
     }
-    let places = [(1, "place 3"), (9, "cell 3"), (10, "step 3"), (12, "face 3"), (14, "estimate 3"), (16, "place 3")];
+    let places = [(1, "place 3"), (9, "cell 3"), (10, "step 3"), (12, "face 3"), (14, "estimate 3"), (20, "place 3")];
     for (number, place) in places {
         assert!(text(number).starts_with(&format!("refusal {number} at {place}: ")));
     }

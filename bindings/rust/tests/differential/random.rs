@@ -1,6 +1,8 @@
-//! Inputs: a pseudo-random generator of our own, roads, densities, totals, words, stations and the ways to damage them.
+//! Inputs: a pseudo-random generator of our own, roads, densities, caps, totals, words, stations and the ways to damage
+//! them.
 
 use super::reference::{self, illegal, Station, Units};
+use welgadou::OPEN;
 
 /// SplitMix64.
 pub struct Random(u64);
@@ -243,6 +245,48 @@ pub fn size(g: &mut Random) -> usize {
         2 => g.of(&[2, 3, 4, 5, 7, 8, 9, 15, 16, 17, 31, 32, 33, 255]),
         3 | 4 => 1 + g.below(256),
         _ => 1 + g.below(12),
+    }
+}
+
+/// A cap for the face between two densities: closed, open, about the units or the numerator that would move, any up to
+/// jam, or above 2^31, where a signed comparison goes wrong.
+pub fn cap(g: &mut Random, road: &[u32; 5], a: u32, b: u32) -> u32 {
+    let r = reference::Road::new(*road);
+    let numerator = reference::numerator(&r, i128::from(a), i128::from(b));
+    let (units, whole) = (reference::units(&r, numerator) as u32, (numerator / r.d) as u32);
+    match g.below(10) {
+        0 => 0,
+        1 => OPEN,
+        2 => (1 << 31) + g.of(&[0, 1, 5, units]),
+        3 => g.of(&[OPEN - 1, OPEN - units, (1 << 31) - 1]),
+        4 => g.of(&[whole, whole + 1]),
+        5 => g.from(0, road[3]),
+        6 => units.saturating_sub(1),
+        7 => units + 1,
+        _ => units,
+    }
+}
+
+/// Caps for a state, one a face: all open, all but a few, all the same, or each by itself.
+pub fn caps(g: &mut Random, road: &[u32; 5], cells: &[u32], up: u32, down: u32) -> Vec<u32> {
+    let n = cells.len();
+    let before = |face: usize| if face == 0 { up } else { cells[face - 1] };
+    let after = |face: usize| if face == n { down } else { cells[face] };
+    let at = |g: &mut Random, face: usize| cap(g, road, before(face), after(face));
+    let some = g.below(n + 1);
+    match g.below(6) {
+        0 => vec![OPEN; n + 1],
+        1 => {
+            let mut caps = vec![OPEN; n + 1];
+            for face in [0, some, n] {
+                if g.one_in(2) {
+                    caps[face] = at(g, face);
+                }
+            }
+            caps
+        }
+        2 => vec![at(g, some); n + 1],
+        _ => (0..=n).map(|face| at(g, face)).collect(),
     }
 }
 

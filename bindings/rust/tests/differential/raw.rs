@@ -4,17 +4,18 @@ use std::ptr;
 
 #[rustfmt::skip]
 extern "C" {
-    #[link_name = "welgadou_forecast_2"]
+    #[link_name = "welgadou_forecast_3"]
     fn welgadou_forecast(
         divisor: u32, free: u32, wave: u32, jam: u32, critical: u32, cells: *const u32, cells_len: usize,
         upstream: *const u32, upstream_len: usize, downstream: *const u32, downstream_len: usize, horizon: u32,
-        out: *mut u32, out_len: usize, entered: *mut u64, left: *mut u64, total_entered: *mut u64,
-        total_left: *mut u64, place: *mut u32,
+        caps: *const u32, caps_len: usize, out: *mut u32, out_len: usize, entered: *mut u64, left: *mut u64,
+        total_entered: *mut u64, total_left: *mut u64, place: *mut u32,
     ) -> u32;
+    #[link_name = "welgadou_settle_2"]
     fn welgadou_settle(
         divisor: u32, free: u32, wave: u32, jam: u32, critical: u32, cells: *const u32, cells_len: usize,
-        upstream: u32, downstream: u32, horizon: u32, out: *mut u32, out_len: usize, settled: *mut u32,
-        steps: *mut u32, place: *mut u32,
+        upstream: u32, downstream: u32, horizon: u32, caps: *const u32, caps_len: usize, out: *mut u32,
+        out_len: usize, settled: *mut u32, steps: *mut u32, place: *mut u32,
     ) -> u32;
     fn welgadou_read(
         divisor: u32, free: u32, wave: u32, jam: u32, critical: u32, cells: *const u32, cells_len: usize,
@@ -120,13 +121,14 @@ const WORD: u32 = PATTERN as u32;
 type Refused = (u32, u32);
 
 /// The cells, the call's own units and the totals, of both entered and left.
-#[allow(clippy::type_complexity)]
+#[allow(clippy::too_many_arguments, clippy::type_complexity)]
 pub fn forecast(
     [d, p, q, j, c]: [u32; 5],
     cells: &[u32],
     up: &[u32],
     down: &[u32],
     horizon: u32,
+    caps: &[u32],
     totals: [u64; 2],
     out: usize,
 ) -> Result<(Vec<u32>, [u64; 2], [u64; 2]), Refused> {
@@ -136,8 +138,8 @@ pub fn forecast(
     #[rustfmt::skip]
     let number = unsafe {
         welgadou_forecast(
-            d, p, q, j, c, lent(cells), cells.len(), lent(up), up.len(), lent(down), down.len(), horizon,
-            out_buffer.lent(), out, &mut entered, &mut left, &mut total_entered, &mut total_left, &mut place,
+            d, p, q, j, c, lent(cells), cells.len(), lent(up), up.len(), lent(down), down.len(), horizon, lent(caps),
+            caps.len(), out_buffer.lent(), out, &mut entered, &mut left, &mut total_entered, &mut total_left, &mut place,
         )
     };
     let (own, increased) = ([entered, left], [total_entered, total_left]);
@@ -151,6 +153,7 @@ pub fn settle(
     up: u32,
     down: u32,
     horizon: u32,
+    caps: &[u32],
     out: usize,
 ) -> Result<(Vec<u32>, u32, u32), Refused> {
     let (mut out_buffer, mut settled, mut steps, mut place) = (Buffer::new(out, WORD), WORD, WORD, WORD);
@@ -158,8 +161,8 @@ pub fn settle(
     #[rustfmt::skip]
     let number = unsafe {
         welgadou_settle(
-            d, p, q, j, c, lent(cells), cells.len(), up, down, horizon, out_buffer.lent(), out, &mut settled,
-            &mut steps, &mut place,
+            d, p, q, j, c, lent(cells), cells.len(), up, down, horizon, lent(caps), caps.len(), out_buffer.lent(), out,
+            &mut settled, &mut steps, &mut place,
         )
     };
     let untouched = out_buffer.untouched() && settled == WORD && steps == WORD;

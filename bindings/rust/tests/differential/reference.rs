@@ -115,9 +115,14 @@ fn row_19(totals: Units, own: Units) -> Option<Refused> {
     (passes(0) || passes(1)).then_some((19, 0))
 }
 
-/// The lowest number that applies, out of rows that were all looked at.
+/// "A cap list whose length is not n+1", an empty one too. A cap may be any number.
+fn row_20(n: usize, caps: &[u32]) -> Option<Refused> {
+    (caps.len() != n + 1).then_some((20, 0))
+}
+
+/// The first that applies, out of rows that were all looked at and stand in the call's order of checks.
 fn judge(rows: &[Option<Refused>]) -> Result<(), Refused> {
-    match rows.iter().flatten().min_by_key(|refused| refused.0) {
+    match rows.iter().flatten().next() {
         Some(&refused) => Err(refused),
         None => Ok(()),
     }
@@ -174,12 +179,17 @@ pub fn word_of(r: &Road, cells: &[i128], up: i128, down: i128) -> Vec<u8> {
     with_ends(cells, up, down).windows(2).map(|pair| letter(r, pair[0], pair[1])).collect()
 }
 
-/// The next densities, and the units over each face.
-pub fn step(r: &Road, cells: &[i128], up: i128, down: i128) -> (Vec<i128>, Vec<i128>) {
-    let units: Vec<i128> =
-        with_ends(cells, up, down).windows(2).map(|pair| units(r, numerator(r, pair[0], pair[1]))).collect();
-    let next = (0..cells.len()).map(|i| cells[i] + units[i] - units[i + 1]).collect();
-    (next, units)
+/// The flow numerator of each face.
+pub fn numerators(r: &Road, cells: &[i128], up: i128, down: i128) -> Vec<i128> {
+    with_ends(cells, up, down).windows(2).map(|pair| numerator(r, pair[0], pair[1])).collect()
+}
+
+/// "A face moves the smaller of its rounded flow and its cap": the next densities, and the units over each face.
+fn step(r: &Road, caps: &[u32], cells: &[i128], up: i128, down: i128) -> (Vec<i128>, Vec<i128>) {
+    let flows = numerators(r, cells, up, down).into_iter().map(|numerator| units(r, numerator));
+    let moved: Vec<i128> = flows.zip(caps).map(|(flow, &cap)| i128::min(flow, i128::from(cap))).collect();
+    let next = (0..cells.len()).map(|i| cells[i] + moved[i] - moved[i + 1]).collect();
+    (next, moved)
 }
 
 pub fn wide(cells: &[u32]) -> Vec<i128> {
@@ -204,10 +214,10 @@ pub struct Forecast {
 }
 
 /// The cells after a step for each pair of ends, and the units of these steps.
-fn run(r: &Road, cells: &[u32], up: &[u32], down: &[u32]) -> (Vec<u32>, Units) {
+fn run(r: &Road, caps: &[u32], cells: &[u32], up: &[u32], down: &[u32]) -> (Vec<u32>, Units) {
     let (mut x, mut entered, mut left) = (wide(cells), 0, 0);
     for (&up, &down) in up.iter().zip(down) {
-        let (next, units) = step(r, &x, i128::from(up), i128::from(down));
+        let (next, units) = step(r, caps, &x, i128::from(up), i128::from(down));
         x = next;
         entered += units[0];
         left += units[cells.len()];
@@ -215,12 +225,14 @@ fn run(r: &Road, cells: &[u32], up: &[u32], down: &[u32]) -> (Vec<u32>, Units) {
     (narrow(&x), [entered, left].map(|units| u64::try_from(units).expect("a count")))
 }
 
+#[allow(clippy::too_many_arguments)]
 pub fn forecast(
     r: [u32; 5],
     cells: &[u32],
     up: &[u32],
     down: &[u32],
     horizon: u32,
+    caps: &[u32],
     totals: Units,
     out: usize,
 ) -> Result<Forecast, Refused> {
@@ -234,24 +246,34 @@ pub fn forecast(
         row_6(horizon),
         row_7([up.len(), down.len()], horizon),
         row_8(&[(out, cells.len())]),
+        row_20(cells.len(), caps),
         row_9(r, cells),
         row_10(r, up),
         row_11(r, down),
     ])?;
     // Only an input that passes these has steps, and so units of its own: "checked last".
-    let (cells, own) = run(r, cells, up, down);
+    let (cells, own) = run(r, caps, cells, up, down);
     judge(&[row_19(totals, own)])?;
     Ok(Forecast { cells, own, totals: [totals[0] + own[0], totals[1] + own[1]] })
 }
 
-#[derive(Debug, PartialEq)]
+#[derive(Clone, Debug, PartialEq)]
 pub struct Settled {
     pub cells: Vec<u32>,
     pub settled: bool,
     pub steps: u32,
 }
 
-pub fn settle(r: [u32; 5], cells: &[u32], up: u32, down: u32, horizon: u32, out: usize) -> Result<Settled, Refused> {
+/// Whether a step is still goes by the letters of the road, which has no caps; the step itself keeps to the caps.
+pub fn settle(
+    r: [u32; 5],
+    cells: &[u32],
+    up: u32,
+    down: u32,
+    horizon: u32,
+    caps: &[u32],
+    out: usize,
+) -> Result<Settled, Refused> {
     let r = &Road::new(r);
     judge(&[
         row_1(r),
@@ -261,6 +283,7 @@ pub fn settle(r: [u32; 5], cells: &[u32], up: u32, down: u32, horizon: u32, out:
         row_5(cells),
         row_6(horizon),
         row_8(&[(out, cells.len())]),
+        row_20(cells.len(), caps),
         row_9(r, cells),
         row_10(r, &[up]),
         row_11(r, &[down]),
@@ -268,7 +291,7 @@ pub fn settle(r: [u32; 5], cells: &[u32], up: u32, down: u32, horizon: u32, out:
     let (up, down) = (i128::from(up), i128::from(down));
     let mut x = wide(cells);
     for k in 0..horizon {
-        let (next, _) = step(r, &x, up, down);
+        let (next, _) = step(r, caps, &x, up, down);
         let keeps_letters = word_of(r, &x, up, down) == word_of(r, &next, up, down);
         let keeps_sum = x.iter().sum::<i128>() == next.iter().sum::<i128>();
         if keeps_letters && keeps_sum {

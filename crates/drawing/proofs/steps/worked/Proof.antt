@@ -7,10 +7,10 @@ use Rattle.drawing.proofs.steps.worked.Statement.{statement}
 use Rattle.drawing.proofs.steps.worked.Tie as tie
 
 abbrev Inv-loop : tie.InvT-loop
-Inv-loop road cells₀ ups downs out₀ shades₀ t₀ cells out shades t = (length cells ≡ length cells₀) × (length out ≡ length out₀) × (length shades ≡ length shades₀)
+Inv-loop road cells₀ ups downs caps out₀ shades₀ t₀ cells out shades t = (length cells ≡ length cells₀) × (length out ≡ length out₀) × (length shades ≡ length shades₀)
 
 abbrev μ-loop : tie.MeasureT-loop
-μ-loop road cells₀ ups downs out₀ shades₀ t₀ cells out shades t = length ups - t
+μ-loop road cells₀ ups downs caps out₀ shades₀ t₀ cells out shades t = length ups - t
 
 pub worked-spec : {M : Type 1} → statement M
 worked-spec =

@@ -16,16 +16,16 @@ use Rattle.forecast.proofs.forecasting.judged.Tie as tie
 returns : tie.Need-returns
 returns c =
     let j = c .before .before in
-    let s = j .before .before .before .before in
-    shape-stands (s .args .road) (s .args .cells .now) (s .args .upstream .now) (s .args .downstream .now) (s .args .horizon) (s .args .out)
+    let s = j .before .before .before .before .before in
+    shape-stands (s .args .road) (s .args .caps .now) (s .args .cells .now) (s .args .upstream .now) (s .args .downstream .now) (s .args .horizon) (s .args .out)
     (j .judged-shape .result) (j .judged-shape .ensures) (c .if1 .taken)
 
 -- past the first branch the shape is right, so that the lists are short
-short : (c : tie.After-first-above) → (length (c .before .before .before .before .before .before .before .args .cells .now) ≤ cellsCeiling) × ((length (c .before .before .before .before .before .before .before .args .upstream .now) ≤ horizonCeiling) × (length (c .before .before .before .before .before .before .before .args .downstream .now) ≤ horizonCeiling))
+short : (c : tie.After-first-above) → (length (c .before .before .before .before .before .before .before .before .args .cells .now) ≤ cellsCeiling) × ((length (c .before .before .before .before .before .before .before .before .args .upstream .now) ≤ horizonCeiling) × (length (c .before .before .before .before .before .before .before .before .args .downstream .now) ≤ horizonCeiling))
 short c =
     let j = c .before .before .before in
-    let s = j .before .before .before .before in
-    shape-short (s .args .road) (s .args .cells .now) (s .args .upstream .now) (s .args .downstream .now) (s .args .horizon) (s .args .out)
+    let s = j .before .before .before .before .before in
+    shape-short (s .args .road) (s .args .caps .now) (s .args .cells .now) (s .args .upstream .now) (s .args .downstream .now) (s .args .horizon) (s .args .out)
     (same-number (j .judged-shape .ensures) (c .before .if1 .left))
 
 add-or-if : tie.Need-add-or-if
@@ -58,7 +58,7 @@ returns-2 c =
     let down = c .before .before .before in
     let up = down .before in
     let cell = up .before in
-    let s = cell .before .before .before .before .before .before .before in
+    let s = cell .before .before .before .before .before .before .before .before in
     c .or-if3 .ensures
     ∙ next-row 11
     (c .before .or-if2 .ensures

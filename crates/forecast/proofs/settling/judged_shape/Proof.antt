@@ -10,22 +10,27 @@ use Rattle.forecast.proofs.settling.judged_shape.Tie as tie
 returns : tie.Need-returns
 unfolding settleShapeRefusal roadRefusal
 returns c =
-    let judged = c .before .before .before in
-    let output = judged .before in
+    let judged = c .before .before .before .before in
+    let caps = judged .before in
+    let output = caps .before in
     let horizon = output .before in
     let cells = horizon .before in
-    c .or-if3 .ensures
+    c .or-if4 .ensures
+    ∙ next-row 20
+    (c .before .or-if3 .ensures
     ∙ next-row 8
-    (c .before .or-if2 .ensures
+    (c .before .before .or-if2 .ensures
     ∙ next-row 6
-    (c .before .before .or-if .ensures ∙ next-row 5 (judged .judged .ensures) (cells .bad-cells .ensures) refl)
+    (c .before .before .before .or-if .ensures ∙ next-row 5 (judged .judged .ensures) (cells .bad-cells .ensures) refl)
     (horizon .bad-horizon .ensures)
     refl)
     (output .bad-output .ensures)
+    refl)
+    (caps .bad-caps .ensures)
     refl
 
 pub judged-shape-spec : {M : Type 1} → statement M
 judged-shape-spec =
     tie.close
     (tie.spec (λ c κs. search needs) (λ c κs. search needs) (λ c κs. search needs) (λ c κs. search needs)
-    (λ c κs. search needs) (λ c κs. search needs) (λ c κs. search needs) returns)
+    (λ c κs. search needs) (λ c κs. search needs) (λ c κs. search needs) (λ c κs. search needs) (λ c κs. search needs) returns)

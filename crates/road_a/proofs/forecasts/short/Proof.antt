@@ -16,11 +16,14 @@ slice-aggregate-show-3 c = prefix-length _ _ (search needs)
 slice-aggregate-show-4 : tie.Need-slice-aggregate-show-4
 slice-aggregate-show-4 c = prefix-length _ _ (search needs)
 
+slice-aggregate-show-5 : tie.Need-slice-aggregate-show-5
+slice-aggregate-show-5 c = prefix-length _ _ (search needs)
+
 pub short-spec : {M : Type 1} → statement M
 short-spec =
     tie.close
-    (tie.spec (λ c κs. search needs) (λ c κs. search needs) (λ c κs. search needs)
-    (λ c κs. search needs) (λ c κs. search needs) (λ c κs. search needs) (λ c κs. search needs)
-    (λ c. search needs) slice-aggregate-show (λ c. search needs) slice-aggregate-show-2
-    (λ c. search needs) slice-aggregate-show-3 (λ c. search needs) slice-aggregate-show-4
-    (λ c κs. search needs) (λ c. search needs) (λ c. search needs))
+    (tie.spec (λ c κs. search needs) (λ c κs. search needs) (λ c κs. search needs) (λ c κs. search needs)
+    (λ c κs. search needs) (λ c κs. search needs) (λ c. search needs) (λ c κs. search needs)
+    (λ c. search needs) slice-aggregate-show (λ c. search needs) slice-aggregate-show-2 (λ c. search needs)
+    slice-aggregate-show-3 (λ c. search needs) slice-aggregate-show-4 (λ c. search needs)
+    slice-aggregate-show-5 (λ c κs. search needs) (λ c. search needs) (λ c. search needs))

@@ -10,9 +10,13 @@ slice-aggregate-show c = prefix-length _ _ (search needs)
 slice-aggregate-show-2 : tie.Need-slice-aggregate-show-2
 slice-aggregate-show-2 c = prefix-length _ _ (search needs)
 
+slice-aggregate-show-3 : tie.Need-slice-aggregate-show-3
+slice-aggregate-show-3 c = prefix-length _ _ (search needs)
+
 pub long-spec : {M : Type 1} → statement M
 long-spec =
     tie.close
     (tie.spec (λ c κs. search needs) (λ c κs. search needs) (λ c κs. search needs) (λ c. search needs)
-    slice-aggregate-show (λ c. search needs) slice-aggregate-show-2 (λ c κs. search needs)
+    (λ c κs. search needs) (λ c. search needs) slice-aggregate-show (λ c. search needs)
+    slice-aggregate-show-2 (λ c. search needs) slice-aggregate-show-3 (λ c κs. search needs)
     (λ c. search needs) (λ c. search needs))

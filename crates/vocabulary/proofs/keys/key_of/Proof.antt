@@ -14,7 +14,7 @@ returns c = no-key (c .before .args .code) (c .if1 .taken)
 returns-2 : tie.Need-returns-2
 unfolding table keyRow ascii
 returns-2 c =
-    let h : c .before .before .before .args .code < 25 = search needs in
+    let h : c .before .before .before .args .code < 26 = search needs in
     told-at table _ _ h
 
 pub key-of-spec : {M : Type 1} → statement M

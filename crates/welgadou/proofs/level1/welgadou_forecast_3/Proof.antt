@@ -1,8 +1,8 @@
--- `welgadou_forecast_2` meets its contract: the answer below, case by case.
+-- `welgadou_forecast_3` meets its contract: the answer below, case by case.
 use Rattle.welgadou.proofs.ForecastAnswers.{forecast-done, forecast-refused}
 use borrow.Author.Needs.{needs}
-use Rattle.welgadou.proofs.level1.welgadou_forecast_2.Statement.{statement}
-use Rattle.welgadou.proofs.level1.welgadou_forecast_2.Tie as tie
+use Rattle.welgadou.proofs.level1.welgadou_forecast_3.Statement.{statement}
+use Rattle.welgadou.proofs.level1.welgadou_forecast_3.Tie as tie
 
 returns : tie.Need-returns
 returns c =
@@ -14,8 +14,8 @@ returns-2 c =
     let called = c .before .before .before .before .before in
     forecast-refused (called .forecast .ensures) (c .before .f .given .1)
 
-pub welgadou-forecast-2-spec : {M : Type 1} → statement M
-welgadou-forecast-2-spec =
+pub welgadou-forecast-3-spec : {M : Type 1} → statement M
+welgadou-forecast-3-spec =
     tie.close
     (tie.spec (λ c κs. search needs) (λ c. search needs) (λ c. search needs)
     (λ c. search needs) returns (λ c. search needs) returns-2)
