@@ -17,7 +17,7 @@ enum { ONE_MORE = 1 };
 enum { ONE_MORE = 0 };
 #endif
 
-enum { CELLS = 256, STEPS = 4096, ROUNDS = 60, KERNELS = 7, SIZES = 4 };
+enum { CELLS = 256, STEPS = 4096, FAR_STEPS = 400, FAR_FLOW = 50, ROUNDS = 60, KERNELS = 7, SIZES = 4 };
 
 /* The input, and what each kernel made of it. */
 static const struct road road = { 4095, 3276, 819, 1000000, 200000 };
@@ -34,6 +34,11 @@ static struct result {
 /* For the ranking also the same at a thousandth of the jam, and densities that rise: their changes fall in size. */
 static const struct road small_road = { 5, 4, 1, 1000, 200 };
 static uint32_t small_cells[CELLS], rising[CELLS];
+
+/* For settling also a state from which each test of stillness, a look, goes far: all faces move FAR_FLOW units but the one
+ * before the last cell, whose cap is one less, and later the one before that. In FAR_STEPS steps the last cell does not
+ * run short of units. */
+static uint32_t far_cells[CELLS], far_up[FAR_STEPS], far_down[FAR_STEPS], far_caps[CELLS + 1];
 
 /* The calls: run kernel k on the first n cells, with so many steps. */
 static void forecast(int k, size_t n, uint32_t steps, const uint32_t *caps)
@@ -57,6 +62,27 @@ static void settle(int k, size_t n, uint32_t steps, const uint32_t *caps)
 
 static void run_settle(int k, size_t n, uint32_t steps) { settle(k, n, steps, open_caps); }
 static void run_narrow_settle(int k, size_t n, uint32_t steps) { settle(k, n, steps, narrow_caps); }
+
+/* The forecast in the place of a settling run: it makes the same steps and looks at none. */
+static void forecast_far(const struct road *r, const uint32_t *x, size_t n, uint32_t before, uint32_t after,
+                         uint32_t horizon, const uint32_t *caps, uint32_t *out, uint32_t *settled, uint32_t *steps)
+{
+    uint64_t entered, left;
+    (void)before;
+    (void)after;
+    proved_forecast(r, x, n, far_up, far_down, horizon, caps, out, &entered, &left);
+    *settled = 0;
+    *steps = horizon;
+}
+
+static void run_far_settle(int k, size_t n, uint32_t steps)
+{
+    static settler *const kernels[] = { plain_settle, tuned_settle, EARLIER(before_settle) forecast_far, proved_settle };
+    struct result *to = &results[k];
+    /* The last caps, so that the narrow face is before the last cell of any n. */
+    kernels[k](&small_road, far_cells, n, far_up[0], far_down[0], steps, far_caps + CELLS - n, to->cells, &to->settled,
+               &to->steps);
+}
 
 static void run_read(int k, size_t n, uint32_t steps)
 {
@@ -103,6 +129,8 @@ static void run_rising(int k, size_t n, uint32_t steps)
 #define FORECASTERS { "plain C, division", "tuned C, one pass", "tuned C, two passes", "tuned C, limits", "tuned C, floats", \
     EARLIER(BEFORE) "welgadou_forecast" }, 6 + ONE_MORE
 #define SETTLERS { "plain C, division", "tuned C, limits", EARLIER(BEFORE) "welgadou_settle" }, 3 + ONE_MORE
+#define FAR_SETTLERS { "plain C, division", "tuned C, limits", EARLIER(BEFORE) "welgadou_forecast", "welgadou_settle" }, \
+    4 + ONE_MORE
 #define RANKERS { "plain C", "tuned C, counting", EARLIER("before") "welgadou_nearest" }, 3 + ONE_MORE
 
 /* A call with its kernels, plain C first and the proved one last, and how often it is made for one time. */
@@ -117,6 +145,7 @@ static const struct contest {
     { "forecast, one step, narrow caps", FORECASTERS, 1000, 1, run_narrow_forecast },
     { "settle", SETTLERS, 1, STEPS, run_settle },
     { "settle, narrow caps", SETTLERS, 1, STEPS, run_narrow_settle },
+    { "settle, far looks", FAR_SETTLERS, 10, FAR_STEPS, run_far_settle },
     { "read", { "plain C", "tuned C, two passes", EARLIER("before") "welgadou_read" }, 3 + ONE_MORE, 1000, 0, run_read },
     { "rows", { "plain C", "tuned C, two passes", EARLIER("before") "welgadou_rows" }, 3 + ONE_MORE, 1000, 0, run_rows },
     { "nearest", RANKERS, 100, 0, run_nearest },
@@ -130,6 +159,9 @@ static double seconds(void)
     clock_gettime(CLOCK_MONOTONIC, &now);
     return (double)now.tv_sec + 1e-9 * (double)now.tv_nsec;
 }
+
+/* Whether a kernel came to another result than plain C. */
+static int differs(int k) { return memcmp(&results[0], &results[k], sizeof results[0]) != 0; }
 
 /* The best time of each kernel, one after the other in every round. All must come to the same result, but for the
  * earlier state's, whose definitions may have been others. */
@@ -148,13 +180,14 @@ static void measure(const struct contest *c, size_t n, uint32_t steps, double be
                 best[k] = took;
         }
     for (int k = 1; k < c->kernels; k++)
-        if (strncmp(c->names[k], "before", 6) && memcmp(&results[0], &results[k], sizeof results[0])) {
+        if (strncmp(c->names[k], "before", 6) && differs(k)) {
             fprintf(stderr, "%s: %s differs from plain C\n", c->call, c->names[k]);
             exit(1);
         }
 }
 
-/* The ratios at full size, and how the proved call's time grows with cells and, where there are several, with steps. */
+/* The ratios at full size, with a word on an earlier state that came to another result, and how the proved call's time
+ * grows with cells and, where there are several, with steps. */
 static void compare(const struct contest *c)
 {
     double best[KERNELS], by_cells[SIZES], by_steps[SIZES], whole;
@@ -168,7 +201,8 @@ static void compare(const struct contest *c)
         printf(" (%s after %u)", results[0].settled ? "settled" : "unsettled", results[0].steps);
     printf(", best of %d, ratios of times; one call of welgadou %.2f us\n", ROUNDS, 1e6 * whole / c->calls);
     for (int k = 0; k < c->kernels; k++)
-        printf("  %-20s %6.3f of plain C   %6.3f of welgadou\n", c->names[k], best[k] / best[0], best[k] / whole);
+        printf("  %-20s %6.3f of plain C   %6.3f of welgadou%s\n", c->names[k], best[k] / best[0], best[k] / whole,
+               differs(k) ? "   (another result)" : "");
     for (int i = 0; i < SIZES; i++) {
         measure(c, (size_t)CELLS >> i, (uint32_t)c->steps, best);
         by_cells[i] = best[last];
@@ -187,13 +221,26 @@ static void compare(const struct contest *c)
     printf("\n");
 }
 
+/* Looks that end at once would show nothing: in each step as much leaves as enters, and some cell changes. */
+static void must_go_far(void)
+{
+    struct result *to = &results[0];
+    plain_forecast(&small_road, far_cells, CELLS, far_up, far_down, FAR_STEPS, far_caps, to->cells, &to->entered,
+                   &to->left);
+    if (to->entered != FAR_FLOW * FAR_STEPS || to->left != FAR_FLOW * FAR_STEPS
+        || to->cells[CELLS - 1] == far_cells[CELLS - 1]) {
+        fprintf(stderr, "the looks do not go far\n");
+        exit(1);
+    }
+}
+
 /* Caps that are not seen in the result would show nothing. */
 static void must_differ(void (*open)(int, size_t, uint32_t), void (*narrow)(int, size_t, uint32_t), uint32_t steps)
 {
     memset(results, 0, sizeof results);
     open(0, CELLS, steps);
     narrow(1, CELLS, steps);
-    if (!memcmp(&results[0], &results[1], sizeof results[0])) {
+    if (!differs(1)) {
         fprintf(stderr, "the narrow caps do not bind\n");
         exit(1);
     }
@@ -217,9 +264,16 @@ int main(void)
         open_caps[i] = WELGADOU_OPEN;
         narrow_caps[i] = i % 4 ? WELGADOU_OPEN : 79000 + (seed = seed * 1664525u + 1013904223u) % 30000;
     }
+    for (int i = 0; i < CELLS; i++)
+        far_cells[i] = small_road.jam / 2;
+    for (int t = 0; t < FAR_STEPS; t++)
+        far_up[t] = small_road.jam;
+    for (int i = 0; i <= CELLS; i++)
+        far_caps[i] = i == CELLS - 1 ? FAR_FLOW - 1 : FAR_FLOW;
     must_differ(run_forecast, run_narrow_forecast, STEPS);
     must_differ(run_forecast, run_narrow_forecast, 1);
     must_differ(run_settle, run_narrow_settle, STEPS);
+    must_go_far();
     /* A legal word, most likely not the state's own. */
     for (int i = 0; i <= CELLS; i++)
         do

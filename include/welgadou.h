@@ -30,8 +30,8 @@
  *
  *   - Proved beside the contracts: that a call returns (of every function, by the prover); "for ever" and the totals of a
  *     chain, of which one link follows from the contracts of two calls; the printed table of the modes; which densities
- *     move at which speed (welgadou_station_speed), without rounding; that a foreign word's number may be negative (a
- *     case).
+ *     move at which speed (welgadou_station_speed), without rounding; that any number of further steps keeps a settled
+ *     state; that a foreign word's number may be negative (a case).
  *   - Not proved, but read off the code and the build: which calls use floating point; what is said of null pointers,
  *     memory, other libraries, threads and unwinding; that a refused call stores nothing (the contract says that the
  *     contents are the same, and of a NaN that it is still one); and where it stands in brackets.
@@ -104,7 +104,7 @@
  * Roadworks narrow single faces. A forecast and a settling run take a list of caps, whole units a step, one a face, face 0
  * first, the same in all steps of the call. A face then moves the smaller of its units and its cap; without rounding, the
  * smaller of numerator / divisor and its cap. 0 closes a face, WELGADOU_OPEN leaves it as it is. A cap has no bound: any
- * number is accepted. Letters, words, modes and rows describe the road without caps, those of a settling run as well.
+ * number is accepted. Letters, words, modes and rows describe the road without caps.
  *
  * A step moves what all faces move at once, worked from the densities before it: a cell's new density is its old one,
  * plus what moves over the face before it, minus what moves over the face after it.
@@ -162,8 +162,8 @@
 extern "C" {
 #endif
 
-/* The version of this header: ten thousand a major, a hundred a minor version. 0.8.0 is 800. */
-#define WELGADOU_VERSION 800
+/* The version of this header: ten thousand a major, a hundred a minor version. 0.9.0 is 900. */
+#define WELGADOU_VERSION 900
 
 /* Returns: the version of the library that is linked, WELGADOU_VERSION where it is the one of this header. */
 uint32_t welgadou_version(void);
@@ -250,8 +250,14 @@ uint32_t welgadou_forecast(uint32_t divisor, uint32_t free, uint32_t wave, uint3
                            uint64_t *entered, uint64_t *left,
                            uint64_t *total_entered, uint64_t *total_left, uint32_t *place);
 
-/* Steps with one pair of ends until a step would be still, or the horizon is used up. A step is still where every face
- * keeps its letter and the cells keep their sum. The letters are the road's, without caps; the steps keep to the caps.
+/* Steps with one pair of ends until a step would be still, or the horizon is used up. A step is still where it keeps every
+ * density, so that a settled state is fixed: any number of further steps with the same ends and caps keeps it. Settled or
+ * not, the cells handed back are those of a forecast from the same cells over the horizon, with lists of copies of the
+ * pair for its ends, the same caps and totals of 0; such a forecast is accepted.
+ *
+ * The meaning of settled changed with version 0.9.0, while the call's name and arguments stayed: before, a step was still
+ * where every face kept its letter and the cells kept their sum, even if densities changed. What was settled then may now
+ * take more steps, or be unsettled.
  *
  * Returns:  0, or the number of the refusal.
  * In:       divisor, free, wave, jam, critical: the road.

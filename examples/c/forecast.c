@@ -150,7 +150,7 @@ int main(void)
     if (units(cells) + total_entered != units(on_road) + total_left)
         return 1;
 
-    /* Level 1: how the state settles with ends that stay. */
+    /* Level 1: how the state settles with ends that stay, until a step would keep every density. */
     number = welgadou_settle(WELGADOU_ROAD(road), cells, CELLS, 100, 0, 1000, open, CELLS + 1, out, CELLS, &settled,
                              &steps, &place);
     if (refused("settle", number, place))

@@ -129,10 +129,13 @@ pub struct Settlement {
     pub steps: u32,
 }
 
-/// Steps from `cells` with one pair of ends until a step is still (every face keeps its letter and the cells their sum)
-/// or `horizon` steps are made, and writes the state reached into `out`, which is as long as `cells`. The steps keep to
-/// `caps`, one a face, as those of a [`forecast`] do; the letters are those of the road without caps. Refuses with the
-/// numbers 1 to 6, 8, 20 and 9 to 11, judged in this order.
+/// Steps from `cells` with one pair of ends until a step would be still (it would keep every density) or `horizon` steps
+/// are made, and writes the state reached into `out`, which is as long as `cells`. The steps keep to `caps`, one a face,
+/// as those of a [`forecast`] do. Refuses with the numbers 1 to 6, 8, 20 and 9 to 11, judged in this order.
+///
+/// A settled state is fixed: any number of further steps with the same ends and caps keeps it. Settled or not, `out`
+/// holds what a [`forecast`] over `horizon` makes of the same cells, with copies of the pair for its ends, the same caps
+/// and totals of 0. Up to version 0.8 a step was still where every face kept its letter and the cells kept their sum.
 ///
 /// ```
 /// let road = welgadou::Road { divisor: 5, free: 4, wave: 1, jam: 1000, critical: 200 };
@@ -146,6 +149,15 @@ pub struct Settlement {
 /// let report = welgadou::settle(&road, &[300, 150], 100, 0, 1, &[0; 3], &mut out)?;
 /// assert_eq!(report, welgadou::Settlement { settled: true, steps: 0 });
 /// assert_eq!(out, [300, 150]);
+///
+/// // One unit moves to cell 2 and then away. Its first step keeps the sum of the cells and is not still.
+/// let road = welgadou::Road { divisor: 1, free: 1, wave: 1, jam: 2, critical: 1 };
+/// let (caps, mut totals, mut full) = ([welgadou::OPEN; 3], welgadou::Totals::default(), [1; 2]);
+/// let report = welgadou::settle(&road, &[1, 0], 0, 0, 9, &caps, &mut out)?;
+/// assert_eq!(report, welgadou::Settlement { settled: true, steps: 2 });
+/// assert_eq!(out, [0, 0]);
+/// welgadou::forecast(&road, &[1, 0], &[0; 9], &[0; 9], 9, &caps, &mut totals, &mut full)?;
+/// assert_eq!(out, full);
 /// # Ok::<(), welgadou::Refusal>(())
 /// ```
 pub fn settle(

@@ -1,4 +1,4 @@
--- The commission is met: each sentence from the public contracts alone, the printed table of the modes by computation.
+-- The commission is met: each sentence from the public contracts alone, the printed table of the modes by computation, and what still means by its law.
 use mathlib.Core.Path.{_≡_, _∙_, refl, sym, ap, subst}
 use mathlib.Core.Bool.{Bool, true, false}
 use mathlib.Core.Logic.{_⊎_, inl, inr}
@@ -19,6 +19,7 @@ use Rattle.scheme.specs.Sums.{sum}
 use Rattle.scheme.specs.Rounded.{entered, left}
 use Rattle.scheme.specs.ByFaces.{RunByFaces}
 use Rattle.scheme.specs.declared.many_steps.Totals.{Totals}
+use Rattle.scheme.proofs.Faces.{still-means}
 use Rattle.forecast.specs.declared.forecasting.ForecastAnswer.{ForecastAnswer}
 use Rattle.forecast.specs.Forecast as Forecast
 use Rattle.forecast.specs.Forecast.{forecastRefusal, forecastAnswer, forecastCells, forecastMeaning}
@@ -338,6 +339,9 @@ demand2 = record {
   none-before = λ x c. settling-says x c .least .before;
   settled-state = λ x c. settling-says x c .state;
   settled-within = λ x c. (settling-says x c .long, settling-says x c .within);
+  still-means = still-means;
+  full = λ x c. settling-says x c .full;
+  full-done = λ x c. settling-says x c .full-done;
   fits = λ x c. fit-says x c .all;
   no-misfit = λ x c. fit-says x c .no-face;
   misfit = λ x c e. let m = fit-says x c .lowest e in (m .inside, m .differs, m .lower);

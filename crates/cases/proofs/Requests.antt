@@ -16,10 +16,10 @@ use Rattle.scheme.specs.Advance.{ahead, advance, outflow, entering, leaving, st
 use Rattle.scheme.specs.Rounded.{roundRun, entered, left}
 use Rattle.scheme.specs.Sums.{sum as total, sameList}
 use Rattle.scheme.specs.Runs.{iterated}
-use Rattle.scheme.specs.Settling.{still, settles, settleSteps}
+use Rattle.scheme.specs.Settling.{still, settles, settleSteps, settleCells}
 use Rattle.scheme.specs.Word.{wordOf}
 use Rattle.forecast.specs.Forecast.{forecastRefusal, forecastAnswer, forecastCells}
-use Rattle.forecast.specs.Settle.{settleRefusal, settleAnswer}
+use Rattle.forecast.specs.Settle.{settleRefusal, settleAnswer, settleOutput}
 use Rattle.forecast.specs.Chain.{afterAll}
 use Rattle.rows.specs.Rows.{rowTable, rowOf, terms, dot, rowValue, rowNumerators}
 use Rattle.modes.specs.Modes.{modeOf, modesOf}
@@ -54,7 +54,7 @@ unfolding tests orIf
 too-fast x g f = by-tests x g f refl refl
 
 pub requested : Requested
-unfolding sending receiving numerator units scaled rowTable rowOf terms dot rowValue rowNumerators orIf roadRefusal firstAbove readRefusal readAnswer countOf countsOf queuedOf modeOf modesOf ahead advance outflow entering leaving stepped roundRun entered left forecastRefusal forecastAnswer forecastCells total iterated still settles settleSteps settleRefusal settleAnswer afterAll inW inL letter wordOf sameList alters searched change inserted rankedTo ranking round sum add mul div lt eq le ne ofInt ofBits speedDensity estimateOf badNumber badGiven tooFast
+unfolding sending receiving numerator units scaled rowTable rowOf terms dot rowValue rowNumerators orIf roadRefusal firstAbove readRefusal readAnswer countOf countsOf queuedOf modeOf modesOf ahead advance outflow entering leaving stepped roundRun entered left forecastRefusal forecastAnswer forecastCells total iterated still settles settleSteps settleCells settleRefusal settleAnswer settleOutput afterAll inW inL letter wordOf sameList alters searched change inserted rankedTo ranking round sum add mul div lt eq le ne ofInt ofBits speedDensity estimateOf badNumber badGiven tooFast
 requested = record {
   density-1000 = accepted (Density (whole 1000)) 1000 125 (pos 3) refl refl refl refl refl;
   flow-80-speed-0·8 = accepted (FlowAndSpeed (whole 80) four-fifths) 100 25 (pos 2) refl refl refl refl refl;
@@ -94,4 +94,16 @@ requested = record {
   caps-short = refl;
   caps-short-exact = refl;
   caps-settled = refl;
+  still-step = refl;
+  still-letters = refl;
+  still-sum = refl;
+  still-1 = refl;
+  still-1-cells = refl;
+  still-2 = refl;
+  still-2-cells = refl;
+  still-3 = refl;
+  still-3-cells = refl;
+  still-9 = refl;
+  still-9-cells = refl;
+  still-9-full = refl;
 }

@@ -5,7 +5,7 @@ use Rattle.road.specs.Judgement.{roadRefusal}
 use Rattle.flux.specs.Face.{sending, receiving, numerator, units, scaled, inW, inL, letter}
 use Rattle.checks.specs.Values.{firstAbove}
 use Rattle.scheme.specs.Advance.{ahead, advance, outflow, entering, leaving, stepped}
-use Rattle.scheme.specs.Sums.{sum, sameList}
+use Rattle.scheme.specs.Sums.{sameList}
 use Rattle.scheme.specs.Word.{wordOf}
 use Rattle.scheme.specs.Runs.{iterated}
 use Rattle.scheme.specs.Rounded.{roundRun, entered, left}
@@ -24,7 +24,7 @@ use Rattle.counting.specs.Count.{countRefusal, countAnswer}
 use Rattle.cases.specs.Starred.{Starred}
 
 pub starred : Starred
-unfolding sending receiving numerator units scaled inW inL letter orIf roadRefusal firstAbove ahead advance outflow entering leaving stepped sum wordOf roundRun entered left sameList iterated still settles settleSteps settleCells forecastRefusal forecastAnswer forecastCells settleRefusal settleAnswer settleOutput modeOf modesOf rowTable rowOf terms dot rowValue rowNumerators illegalPair offends firstOffence legal turned wordCount readRefusal predictRefusal readLetters readModes predicted countRefusal countAnswer
+unfolding sending receiving numerator units scaled inW inL letter orIf roadRefusal firstAbove ahead advance outflow entering leaving stepped wordOf roundRun entered left sameList iterated still settles settleSteps settleCells forecastRefusal forecastAnswer forecastCells settleRefusal settleAnswer settleOutput modeOf modesOf rowTable rowOf terms dot rowValue rowNumerators illegalPair offends firstOffence legal turned wordCount readRefusal predictRefusal readLetters readModes predicted countRefusal countAnswer
 starred = record {
   letter-200-200 = refl;
   units-200-200 = refl;

@@ -22,7 +22,9 @@ use Rattle.scheme.specs.ByFaces.{numeratorOver, RunByFaces, ExactStepByFaces, E
 use Rattle.scheme.specs.Exact.{exactStep, exactRun}
 use Rattle.scheme.specs.Settling.{still, after}
 use Rattle.scheme.specs.declared.many_steps.Totals.{Totals}
-use Rattle.forecast.specs.Settle.{PairByFaces}
+use Rattle.forecast.specs.declared.forecasting.Record.{Record}
+use Rattle.forecast.specs.declared.forecasting.ForecastAnswer.the-variants as Forecast
+use Rattle.forecast.specs.Settle.{PairByFaces, fullCells, fullAnswer}
 use Rattle.words.specs.Words.{legal}
 use Rattle.modes.specs.ReadOff.{upstreamOf, downstreamOf, cellsOf}
 use Rattle.counting.specs.WordCount.{wordCount}
@@ -187,6 +189,11 @@ pub record Demand2 : Type 0 where
   pub none-before : EachSettling (λ x. (j : ℕ) → j < x .steps → still (x .road) (x .caps) (x .up) (x .down) (after (x .road) (x .caps) (x .up) (x .down) j (x .cells)) ≡ false)
   pub settled-state : EachSettling (λ x. x .next ≡ after (x .road) (x .caps) (x .up) (x .down) (x .steps) (x .cells))
   pub settled-within : EachSettling (λ x. (length (x .next) ≡ length (x .cells)) × ((i : ℕ) → getD (x .next) i 0 ≤ x .road .jam))
+  -- "A step is now still exactly when every single density is kept. A settled state must then equal the full forecast over T steps with the same ends and caps" (document 02, E8): that
+  -- forecast answers Done, and an unsettled state equals it as well
+  pub still-means : (r : Road) (caps : List ℕ) (up down : ℕ) (xs : List ℕ) → (still r caps up down xs ≡ true) ↔ (roundStep r caps up down xs ≡ xs)
+  pub full : EachSettling (λ x. x .next ≡ fullCells (x .road) (x .caps) (x .cells) (x .up) (x .down) (x .horizon))
+  pub full-done : EachSettling (λ x. (d : Record) × (fullAnswer (x .road) (x .caps) (x .cells) (x .up) (x .down) (x .horizon) ≡ Forecast.Done d))
   -- ".. fits ..": all faces of the word hold exactly when it is the state's; otherwise the lowest face that does not
   pub fits : EachFit (λ x. (x .holds ≡ true) ↔ (x .word ≡ ownWord x))
   pub no-misfit : EachFit (λ x. x .holds ≡ true → x .face ≡ 0)

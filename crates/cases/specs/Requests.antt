@@ -1,7 +1,7 @@
 -- The values of document 02, request by request: one record, one field a value. E1, E3, E4, E5 and E7 print none: their values are worked from their words. Where no caps are named they are open. Those of E2 on
--- road A are among the starred cases, and E6 prints those of two cells.
+-- road A are among the starred cases, E6 prints those of two cells, and E8 those of one step.
 use mathlib.Core.Path.{_≡_}
-use mathlib.Core.Bool.{true}
+use mathlib.Core.Bool.{Bool, true, false}
 use mathlib.Core.List.{List, [], _∷_}
 use Prim.Native.Nat.{ℕ, _+_}
 use lib.ListN.{length}
@@ -10,6 +10,7 @@ use lib.Ieee.{Float, binary64, ofBits}
 use Rattle.road.specs.Table.{refused}
 use Rattle.road.specs.declared.Road.{Road}
 use Rattle.flux.specs.Face.{numerator, units}
+use Rattle.scheme.specs.Sums.{sum}
 use Rattle.scheme.specs.Rounded.{openCaps, roundStep}
 use Rattle.scheme.specs.Exact.{exactStep}
 use Rattle.scheme.specs.Word.{wordOf}
@@ -17,8 +18,9 @@ use Rattle.scheme.specs.declared.many_steps.Totals.{Totals}
 use Rattle.forecast.specs.declared.forecasting.ForecastAnswer.{ForecastAnswer}
 use Rattle.forecast.specs.declared.forecasting.ForecastAnswer.the-variants as Forecast
 use Rattle.forecast.specs.Forecast.{forecastAnswer, forecastCells}
+use Rattle.forecast.specs.declared.settling.SettleAnswer.{SettleAnswer}
 use Rattle.forecast.specs.declared.settling.SettleAnswer.the-variants as Settle
-use Rattle.forecast.specs.Settle.{settleAnswer}
+use Rattle.forecast.specs.Settle.{settleAnswer, settleOutput, fullCells}
 use Rattle.forecast.specs.Chain.{Call, Site, afterAll}
 use Rattle.modes.specs.Reading.{readAnswer}
 use Rattle.modes.specs.declared.reading.ReadAnswer.the-variants as Read
@@ -70,7 +72,7 @@ step up down = record { road = roadA; caps = openCaps 3; horizon = 1; ups = up �
 abbrev pub site : List ℕ → Totals → Site
 site cells so-far = record { cells = cells; totals = so-far }
 
--- E5: the road on which alternate cells change places: D, p, q all 1, J 2, C 1
+-- E5 and E8: the road on which alternate cells change places, D, p, q all 1, J 2, C 1
 abbrev pub unitRoad : Road
 unitRoad = record { divisor = 1; free = 1; wave = 1; jam = 2; critical = 1 }
 
@@ -93,6 +95,19 @@ exactly caps up cells down = exactStep roadA caps 1 up down cells
 
 abbrev pub ownRows : ℕ → List ℕ → ℕ → List ℤ
 ownRows up cells down = rowNumerators roadA up down (wordOf roadA up down cells) cells
+
+-- E8: the cells 1, 0 of that road between empty ends: the report of a settling run within T steps, and its cells; and a report
+abbrev pub oneUnit : List ℕ
+oneUnit = 1 ∷ 0 ∷ []
+
+abbrev pub reportWithin : ℕ → SettleAnswer
+reportWithin t = settleAnswer unitRoad (openCaps 2) oneUnit 0 0 t 2
+
+abbrev pub cellsWithin : ℕ → List ℕ
+cellsWithin t = settleOutput unitRoad (openCaps 2) oneUnit 0 0 t oneUnit
+
+abbrev pub reported : Bool → ℕ → SettleAnswer
+reported settled steps = Settle.Done (record { settled = settled; steps = steps })
 
 pub record Requested : Type 0 where
   -- E1, station readings
@@ -141,5 +156,18 @@ pub record Requested : Type 0 where
   -- one unit less at face 0, which no longer moves all of its flow: the row of cell 1 is not the exact step, those of the others are
   pub caps-short : capped (79 ∷ 160 ∷ 60 ∷ 160 ∷ []) 100 three 0 ≡ 219 ∷ 250 ∷ 600 ∷ []
   pub caps-short-exact : exactly (79 ∷ 160 ∷ 60 ∷ 160 ∷ []) 100 three 0 ≡ 1095 ∷ 1250 ∷ 3000 ∷ []
-  -- a settling run obeys the caps as well: between a full and an empty end the two cells let 50 in and 50 out, and stand still at once; with open caps their sum falls
-  pub caps-settled : settleAnswer roadA (50 ∷ 50 ∷ 50 ∷ []) (300 ∷ 300 ∷ []) 1000 0 9 2 ≡ Settle.Done (record { settled = true; steps = 0 })
+  -- a settling run obeys the caps as well: between a full and an empty end every face moves 50, and the two cells stand still at once; with open caps their sum falls
+  pub caps-settled : settleAnswer roadA (50 ∷ 50 ∷ 50 ∷ []) (300 ∷ 300 ∷ []) 1000 0 9 2 ≡ reported true 0
+  -- E8, still means still: the cells 1, 0 become 0, 1 with the same letters and the same sum, which is no still step; after one more the road is empty, and the third step is the still one
+  pub still-step : forecastCells unitRoad (openCaps 2) oneUnit (0 ∷ []) (0 ∷ []) 1 none oneUnit ≡ 0 ∷ 1 ∷ []
+  pub still-letters : wordOf unitRoad 0 0 (0 ∷ 1 ∷ []) ≡ wordOf unitRoad 0 0 oneUnit
+  pub still-sum : sum (0 ∷ 1 ∷ []) ≡ sum oneUnit
+  pub still-1 : reportWithin 1 ≡ reported false 1
+  pub still-1-cells : cellsWithin 1 ≡ 0 ∷ 1 ∷ []
+  pub still-2 : reportWithin 2 ≡ reported false 2
+  pub still-2-cells : cellsWithin 2 ≡ 0 ∷ 0 ∷ []
+  pub still-3 : reportWithin 3 ≡ reported true 2
+  pub still-3-cells : cellsWithin 3 ≡ 0 ∷ 0 ∷ []
+  pub still-9 : reportWithin 9 ≡ reported true 2
+  pub still-9-cells : cellsWithin 9 ≡ 0 ∷ 0 ∷ []
+  pub still-9-full : fullCells unitRoad (openCaps 2) oneUnit 0 0 9 ≡ 0 ∷ 0 ∷ []

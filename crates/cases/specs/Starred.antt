@@ -1,4 +1,4 @@
--- The starred cases of document 01, "Road A at its edges", rounded as document 02, E2, says, with open caps (E7): one record, one field a starred value.
+-- The starred cases of document 01, "Road A at its edges", rounded as document 02, E2, says, with open caps (E7), still as E8 has it: one record, one field a starred value.
 use mathlib.Core.Path.{_≡_}
 use mathlib.Core.Bool.{true}
 use mathlib.Core.List.{List, [], _∷_}

@@ -4,7 +4,7 @@ use mathlib.Core.Bool.{Bool, true, false, true≢false}
 use mathlib.Core.List.{List}
 use Prim.Native.Nat.{ℕ, _+_, _*_}
 use native.Mathlib.Omega.{arith}
-use lib.ListN.{length}
+use lib.ListN.{length, replicate}
 use Rattle.choice.specs.Choice.{pick}
 use Rattle.road.specs.Table.{refused, passed}
 use Rattle.road.specs.Ceilings.{jamCeiling}
@@ -17,7 +17,7 @@ use Rattle.scheme.specs.Calls.{Ran, SettledTo}
 use Rattle.scheme.specs.declared.many_steps.Totals.{Totals}
 use Rattle.scheme.specs.declared.settling.Settled.{Settled}
 use Rattle.scheme.proofs.Promises.{roundRun-length, exactRun-length, round-range, round-balance, round-small, round-near, settle-range, settle-length}
-use Rattle.scheme.proofs.Settlement.{least-still}
+use Rattle.scheme.proofs.Settlement.{least-still, full-run}
 use Rattle.scheme.proofs.ByFaces.{run-by-faces, after-by-faces, exact-run-by-faces}
 use Rattle.forecast.specs.declared.forecasting.Record.{Record}
 use Rattle.forecast.specs.declared.forecasting.ForecastAnswer.{ForecastAnswer}
@@ -25,8 +25,8 @@ use Rattle.forecast.specs.declared.forecasting.ForecastAnswer.the-varian
 use Rattle.forecast.specs.declared.settling.SettleAnswer.{SettleAnswer}
 use Rattle.forecast.specs.declared.settling.SettleAnswer.the-variants as S
 use Rattle.forecast.specs.Forecast.{InputChecked, ownOf, increased, carriedOn, totalRow, Fits, forecastRefusal, forecastAnswer, forecastCells, forecastMeaning, meaning, Demand3, Forecasts}
-use Rattle.forecast.specs.Settle.{settleRefusal, SettleChecked, settleAnswer, settleOutput, settleMeaning, meaning as settle-meaning, Settlement, Settles}
-use Rattle.forecast.proofs.Checked.{fits-pass, forecast-call, total-decides, settle-call}
+use Rattle.forecast.specs.Settle.{settleRefusal, SettleChecked, settleAnswer, settleOutput, settleMeaning, meaning as settle-meaning, fromZero, Settlement, Settles}
+use Rattle.forecast.proofs.Checked.{fits-pass, forecast-call, total-decides, settle-call, full-checked}
 
 -- what an accepted forecast carries is what its answer says
 same-record : {d e : Record} → _≡_ {A = ForecastAnswer} (F.Done d) (F.Done e) → d ≡ e
@@ -117,16 +117,30 @@ same-settled q = cc
 
 -- the settling run, refused and accepted
 module _ (r : Road) (caps cells : List ℕ) (up down t : ℕ) (out : List ℕ) where
+  -- the full forecast, which leaves the same cells: what one call moves fits into totals of 0
+  full : SettleChecked r caps cells up down t (length out) → (next : List ℕ) → next ≡ settleCells r caps up down t cells
+      → (own : Totals) × Forecasts r caps cells (replicate t up) (replicate t down) t (fromZero cells .totals) cells next (F.Done (carriedOn (fromZero cells .totals) own))
+  full c next e =
+      let ups = replicate t up in
+      let downs = replicate t down in
+      let input = full-checked r caps cells up down t (length out) c in
+      let ran : Ran r caps ups downs cells next (ownOf r caps cells ups downs) = record { cells = e ∙ full-run r caps up down t cells; entered = refl; left = refl } in
+      let fits = most-fits r caps cells ups downs t cells (fromZero cells .totals) input ran (record { entered-fits = omega (arith, c .horizon-high); left-fits = omega (arith, c .horizon-high) }) in
+      (_, forecast-done r caps cells ups downs t cells (fromZero cells .totals) input ran fits)
+
   settlement : SettleChecked r caps cells up down t (length out) → (next : List ℕ) (d : Settled) → SettledTo r caps up down t cells next d → Settlement r caps cells up down t next d
   unfolding settleCells
   settlement c next d ran =
       let reached : next ≡ after r caps up down (d .steps) cells = ran .cells ∙ ap (λ (k : ℕ). after r caps up down k cells) (sym (ran .steps)) in
+      let forecast = full c next (ran .cells) .1 in
       record {
         least = rw (ran .settled, ran .steps) (least-still r caps up down t cells);
         state = reached;
         by-faces = rw reached (after-by-faces r caps (c .accepted) up down (d .steps) cells);
         long = ap length (ran .cells) ∙ settle-length r caps up down t cells;
         within = rw (ran .cells) (settle-range r caps (c .accepted) up down t cells (c .cells-below));
+        full = forecast .output;
+        full-done = (_, sym (forecast .answer));
       }
 
   pub settle-refused : (f : Refusal) → f ≡ settleRefusal r caps cells up down t (length out) → (f .number ≡ 0 → ⊥) → Settles r caps cells up down t out out (S.Refused f)

@@ -2,9 +2,9 @@
 use mathlib.Core.Path.{_≡_, _∙_, refl, sym, subst}
 use mathlib.Core.Bool.{Bool, false}
 use mathlib.Core.List.{List, [], _∷_}
-use Prim.Native.Nat.{ℕ, _≤_}
+use Prim.Native.Nat.{ℕ, zero, suc, _≤_, zero-le}
 use native.Mathlib.Omega.{arith}
-use lib.ListN.{length}
+use lib.ListN.{length, replicate, length-replicate}
 use borrow.Author.Tests.{ltb-false, le-ltb}
 use Rattle.choice.specs.Choice.{pick}
 use Rattle.choice.proofs.Choice.{or-left, or-right, neither}
@@ -21,6 +21,7 @@ use Rattle.checks.specs.Places.{Placed}
 use Rattle.checks.proofs.First.{all-below, none-above}
 use Rattle.checks.proofs.Rows.{cells-low, cells-high, cells-pass, horizon-high, horizon-passes, ups-long, downs-long, ends-pass, output-long, output-passes, caps-long, caps-pass, pair-passes}
 use Rattle.checks.proofs.Places.{values-placed}
+use Rattle.scheme.specs.Sums.{Below}
 use Rattle.scheme.specs.declared.many_steps.Totals.{Totals}
 use Rattle.forecast.specs.Forecast.{shapeRows, shapeRefusal, inputRows, inputRefusal, InputChecked, ownOf, largest, passesLargest, totalRow, totalRows, forecastRows, forecastRefusal, Fits, Checked}
 use Rattle.forecast.specs.Settle.{settleShapeRows, settleShapeRefusal, settleRows, settleRefusal, SettleChecked}
@@ -120,6 +121,12 @@ module _ (r : Road) (caps cells ups downs : List ℕ) (t out : ℕ) where
         judge-append passed (inputRows r caps cells ups downs t out) (totalRows r caps cells ups downs totals)
         ∙ next-row 19 (all-pass (inputRows r caps cells ups downs t out) (input-passes c)) (sym q) refl
 
+-- copies of an end are in range where it is
+copies-below : {j end : ℕ} (t : ℕ) → end ≤ j → Below j (replicate t end)
+copies-below zero h i = zero-le
+copies-below (suc t) h zero = h
+copies-below (suc t) h (suc i) = copies-below t h i
+
 module _ (r : Road) (caps cells : List ℕ) (up down t out : ℕ) where
   pub settle-call : Call (settleRows r caps cells up down t out) (SettleChecked r caps cells up down t out) (Placed r cells (up ∷ []) (down ∷ [])) (settleRefusal r caps cells up down t out)
   unfolding settleRefusal
@@ -144,6 +151,22 @@ module _ (r : Road) (caps cells : List ℕ) (up down t out : ℕ) where
         & output-passes (length cells) out (c .output-long)
         & caps-pass (length cells) (length caps) (c .caps-long)
         & pair-passes r cells up down (c .cells-below) (c .up-below) (c .down-below) tt);
+  }
+
+  -- an input that the settling run's rows let through is one that the full forecast's do, up to 19
+  pub full-checked : SettleChecked r caps cells up down t out → InputChecked r caps cells (replicate t up) (replicate t down) t (length cells)
+  full-checked c = record {
+    accepted = c .accepted;
+    cells-low = c .cells-low;
+    cells-high = c .cells-high;
+    horizon-high = c .horizon-high;
+    ups-long = length-replicate t up;
+    downs-long = length-replicate t down;
+    output-long = refl;
+    caps-long = c .caps-long;
+    cells-below = c .cells-below;
+    ups-below = copies-below t (c .up-below);
+    downs-below = copies-below t (c .down-below);
   }
 
   pub settle-shape-stands : (f : Refusal) → f ≡ settleShapeRefusal r (length caps) (length cells) t out → (f .number ≡ 0 → ⊥) → f ≡ settleRefusal r caps cells up down t out

@@ -1,5 +1,5 @@
--- The definitions of Level 1: forecast, settling run, and calls in a chain.
+-- The definitions of Level 1: forecast, forecasts in a chain, settling run, and all calls in a chain.
 pub mod Forecast
-pub mod Settle
 pub mod Chain
+pub mod Settle
 pub mod ForEver

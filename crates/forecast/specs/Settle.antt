@@ -1,4 +1,4 @@
--- The settling run: its rows of the refusal table, its answer and its output.
+-- The settling run: its rows of the refusal table, its answer and its output, and the full forecast that it equals.
 use mathlib.Core.Path.{_≡_}
 use mathlib.Core.Bool.{Bool, false}
 use mathlib.Core.List.{List, [], _∷_, _++_}
@@ -18,8 +18,12 @@ use Rattle.scheme.specs.Rounded.{entered, left}
 use Rattle.scheme.specs.ByFaces.{RunByFaces}
 use Rattle.scheme.specs.Settling.{after, settles, settleSteps, settleCells, LeastStill}
 use Rattle.scheme.specs.declared.settling.Settled.{Settled}
+use Rattle.forecast.specs.declared.forecasting.Record.{Record}
+use Rattle.forecast.specs.declared.forecasting.ForecastAnswer.{ForecastAnswer}
+use Rattle.forecast.specs.declared.forecasting.ForecastAnswer.the-variants as Forecast
 use Rattle.forecast.specs.declared.settling.SettleAnswer.{SettleAnswer}
 use Rattle.forecast.specs.declared.settling.SettleAnswer.the-variants.{Done, Refused}
+use Rattle.forecast.specs.Chain.{Call, Site, answerTo, outputOf}
 
 -- rows 5, 6, 8 and 20, over the numbers of caps and of cells, the horizon and the output's length
 abbrev pub settleListRows : ℕ → ℕ → ℕ → ℕ → List Row
@@ -62,7 +66,7 @@ abbrev pub meaning : SettleAnswer → Meaning
 meaning (Done s) = record { number = 0; place = 0; settled = s .settled; steps = s .steps }
 meaning (Refused f) = record { number = f .number; place = f .place; settled = false; steps = 0 }
 
--- the numbers that document 01 asks for
+-- the numbers that the documents ask for
 unfoldable pub settleMeaning : Road → List ℕ → List ℕ → ℕ → ℕ → ℕ → ℕ → Meaning
 settleMeaning r caps cells up down t out = record {
   number = settleRefusal r caps cells up down t out .number;
@@ -94,13 +98,31 @@ PairByFaces r caps up down k cells next =
     RunByFaces r caps (replicate k up) (replicate k down) cells next
     (entered r caps (replicate k up) (replicate k down) cells) (left r caps (replicate k up) (replicate k down) cells)
 
--- what an accepted run reports and hands back: the least k below T such that step k+1 is still, or T; the state after those steps, in range
+-- "the full forecast over T steps with the same ends and caps" (document 02, E8): the one end pair in every step, into an output of n, which held the cells
+abbrev pub fullForecast : Road → List ℕ → List ℕ → ℕ → ℕ → ℕ → Call
+fullForecast r caps cells up down t = record { road = r; caps = caps; horizon = t; ups = replicate t up; downs = replicate t down; out = cells }
+
+-- made of the same cells, with both totals 0
+abbrev pub fromZero : List ℕ → Site
+fromZero cells = record { cells = cells; totals = record { entered = 0; left = 0 } }
+
+-- what it leaves in its output, and what it answers
+abbrev pub fullCells : Road → List ℕ → List ℕ → ℕ → ℕ → ℕ → List ℕ
+fullCells r caps cells up down t = outputOf (fromZero cells) (fullForecast r caps cells up down t)
+
+abbrev pub fullAnswer : Road → List ℕ → List ℕ → ℕ → ℕ → ℕ → ForecastAnswer
+fullAnswer r caps cells up down t = answerTo (fromZero cells) (fullForecast r caps cells up down t)
+
+-- what an accepted run reports and hands back: the least k below T such that step k+1 is still, or T; the state after those steps, in range, which is that of the full forecast
 pub record Settlement (r : Road) (caps cells : List ℕ) (up down t : ℕ) (next : List ℕ) (s : Settled) : Type 0 where
   pub least : LeastStill r caps up down t cells (s .settled) (s .steps)
   pub state : next ≡ after r caps up down (s .steps) cells
   pub by-faces : PairByFaces r caps up down (s .steps) cells next
   pub long : length next ≡ length cells
   pub within : Below (r .jam) next
+  -- "A settled state must then equal the full forecast", which is not refused; so does an unsettled one
+  pub full : next ≡ fullCells r caps cells up down t
+  pub full-done : (d : Record) × (fullAnswer r caps cells up down t ≡ Forecast.Done d)
 
 -- what the call promises: a the answer, out what the output held at entry, next what it holds at exit
 pub record Settles (r : Road) (caps cells : List ℕ) (up down t : ℕ) (out next : List ℕ) (a : SettleAnswer) : Type 0 where

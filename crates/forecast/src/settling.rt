@@ -47,9 +47,10 @@ fn judged(
     checks::or_pair(shape, road, cells, up, down)
 }
 
-// No face moves more than its cap in a step. Settled, with the least k below the horizon such that step k+1 is still, and
-// the output holds the state after k steps; or unsettled, with the horizon, and the output holds the state after all of
-// them. Refused, it keeps what it held.
+// No face moves more than its cap in a step. A step is still where it keeps every density. Settled, with the least k below
+// the horizon such that step k+1 is still, and the output holds the state after k steps; or unsettled, with the horizon,
+// and the output holds the state after all of them. Either way it holds what a forecast over the horizon with the one pair
+// in every step would leave. Refused, it keeps what it held.
 pub fn settle(
     road: Road,
     cells: &[u32],

@@ -64,12 +64,13 @@ pub fn show(
 // A road, cells, upstream and downstream ends, the steps, and the places of the output.
 struct Case(u8, u8, u8, u8, u32, usize);
 
-const COUNT: usize = 16;
+const COUNT: usize = 17;
 
 const CASES: [Case; COUNT] = [
     Case(A, few::ONE_101, EMPTY, EMPTY, 1, 1),
     Case(A, CELLS, ONE_100, EMPTY, 1, 3),
     Case(A, few::FEW_UNITS, few::ONE_1, EMPTY, 1, 3),
+    Case(roads::NARROWEST, few::UNIT_EMPTY, EMPTY, EMPTY, 1, 2),
     Case(roads::D_0, CELLS, ONE_100, EMPTY, 1, 3),
     Case(roads::P_6, CELLS, ONE_100, EMPTY, 1, 3),
     Case(roads::C_1000, CELLS, ONE_100, EMPTY, 1, 3),

@@ -1,8 +1,9 @@
 // The words of this program, one form a line: what follows a name, then the names of the cases in their order.
 use printing::page::Page;
 use printing::say;
+use worked::print;
 
-const FORMS: [u8; 2081] = *b"\
+const FORMS: [u8; 2207] = *b"\
 : entered %, left %
 , totals % %
 : moves %
@@ -10,6 +11,7 @@ const FORMS: [u8; 2081] = *b"\
 : unsettled after %
 , output
 , face (%, %)
+, the forecast over T copies of the pair: 
 road A
 road J 2, C 1, D p q all 1
 road A with p 6
@@ -24,9 +26,11 @@ road D 2, p q 1, J 12, C 6
 road D 2, p q 1, J 2, C 1
 road D 4, p q 1, J 4, C 2
 road D 2177, p 13, q 2177, J 998640, C 992712
+road D 4096, p q 1, J 1000000, C 500000
 one cell 101, ends 0
 cells 300 150 700 between 100 and 0
 cells 7 2 9 between 1 and 0
+cells 1 0 of the road with D p q 1, ends 0
 D 0
 p 6
 C 1000
@@ -101,10 +105,12 @@ pub const OUTPUT: usize = 5;
 
 pub const FACE: usize = 6;
 
-// The first name of each table.
-pub const ROADS: usize = 7;
+pub const COPIES: usize = 7;
 
-// The roads of the faces, among them.
+// The first name of each table.
+pub const ROADS: usize = 8;
+
+// The roads of the faces and of the still steps, among them.
 pub const ROAD_A: usize = ROADS;
 
 pub const NARROWEST: usize = ROADS + 1;
@@ -117,9 +123,11 @@ pub const ONE_HALF: usize = ROADS + 11;
 
 pub const D_2177: usize = ROADS + 13;
 
-pub const FORECASTS: usize = ROADS + 14;
+pub const SLOWEST: usize = ROADS + 14;
 
-pub const EDGES: usize = FORECASTS + 16;
+pub const FORECASTS: usize = ROADS + 15;
+
+pub const EDGES: usize = FORECASTS + 17;
 
 pub const SETTLINGS: usize = EDGES + 7;
 
@@ -150,8 +158,9 @@ pub fn say(page: &mut Page, line: usize, a: u64, b: u64) {
     say::form(page, &FORMS, line, a, b, 0, 0);
 }
 
-// What stands between the cells of a state and its caps.
-pub fn caps(page: &mut Page, up: u32, down: u32, horizon: u32) {
+// A call's input by its numbers: the cells, the end pair of every step, the steps and the caps.
+pub fn input(page: &mut Page, cells: &[u32], up: u32, down: u32, horizon: u32, caps: &[u32]) {
+    print::cells(page, cells);
     say::form(
         page,
         &FORMS,
@@ -161,4 +170,5 @@ pub fn caps(page: &mut Page, up: u32, down: u32, horizon: u32) {
         horizon as u64,
         0,
     );
+    print::cells(page, caps);
 }

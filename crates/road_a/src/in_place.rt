@@ -45,8 +45,8 @@ fn same(xs: &[u32], ys: &[u32]) -> bool {
     true
 }
 
-// Whether two lists are the same, in words.
-fn compared(page: &mut Page, xs: &[u32], ys: &[u32]) {
+// Whether two lists are the same, in words that end a line.
+pub fn compared(page: &mut Page, xs: &[u32], ys: &[u32]) {
     if same(xs, ys) {
         forms::say(page, forms::SAME, 0, 0);
     } else {

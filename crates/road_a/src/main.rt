@@ -1,5 +1,5 @@
-// The worked cases of Level 1, run: roads, faces, forecasts, settling runs, totals, the step in its one list, roadworks.
-// One line a case and a comparison, held to stdout.
+// The worked cases of Level 1, run: roads, faces, forecasts, settling runs, still steps, totals, the step in its one list,
+// roadworks. One line a case and a comparison, held to stdout.
 mod faces;
 mod forecasts;
 mod forms;
@@ -7,6 +7,7 @@ mod in_place;
 mod roads;
 mod roadworks;
 mod settlings;
+mod stillness;
 mod totals;
 
 use printing::page;
@@ -19,6 +20,7 @@ fn main() {
     forecasts::edges(&mut page);
     settlings::cases(&mut page);
     settlings::long_cases(&mut page);
+    stillness::cases(&mut page);
     totals::cases(&mut page);
     totals::chain(&mut page);
     in_place::cases(&mut page);

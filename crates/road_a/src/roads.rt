@@ -5,7 +5,7 @@ use printing::page::Page;
 use worked::print;
 use worked::roads;
 
-const COUNT: usize = 14;
+const COUNT: usize = 15;
 
 const CASES: [u8; COUNT] = [
     roads::A,
@@ -22,6 +22,7 @@ const CASES: [u8; COUNT] = [
     roads::ONE_HALF,
     roads::QUARTERS,
     roads::D_2177,
+    roads::SLOWEST,
 ];
 
 // Roads that are accepted and roads that are refused.

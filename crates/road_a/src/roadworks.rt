@@ -13,7 +13,6 @@ use worked::few::ONE_101;
 use worked::few::ONE_300;
 use worked::few::ONE_1001;
 use worked::lists;
-use worked::print;
 use worked::roads;
 use worked::roads::A;
 
@@ -84,9 +83,7 @@ fn both(
         left: 0,
     };
     forms::say(page, forms::ROADWORKS, 0, 0);
-    print::cells(page, cells);
-    forms::caps(page, up, down, horizon);
-    print::cells(page, caps);
+    forms::input(page, cells, up, down, horizon, caps);
     forecasts::told(page, road, cells, ups, downs, horizon, caps, none, out);
     settlings::show(
         page,

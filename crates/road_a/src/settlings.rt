@@ -28,7 +28,26 @@ fn answered(page: &mut Page, answer: SettleAnswer) {
     }
 }
 
-// One settling run and what it left in the output.
+// One settling run, behind its name, and what it left in the output.
+pub fn told(
+    page: &mut Page,
+    road: Road,
+    cells: &[u32],
+    up: u32,
+    down: u32,
+    horizon: u32,
+    caps: &[u32],
+    out: &mut [u32],
+) {
+    answered(
+        page,
+        forecast::settle(road, cells, up, down, horizon, caps, out),
+    );
+    forms::say(page, forms::OUTPUT, 0, 0);
+    print::cells(page, out);
+}
+
+// The same with its name, as a line.
 pub fn show(
     page: &mut Page,
     line: usize,
@@ -41,12 +60,7 @@ pub fn show(
     out: &mut [u32],
 ) {
     forms::say(page, line, 0, 0);
-    answered(
-        page,
-        forecast::settle(road, cells, up, down, horizon, caps, out),
-    );
-    forms::say(page, forms::OUTPUT, 0, 0);
-    print::cells(page, out);
+    told(page, road, cells, up, down, horizon, caps, out);
     page::put(page, b'\n');
 }
 

@@ -6,14 +6,11 @@ use mathlib.Core.List.{List, [], _∷_}
 use Prim.Native.Nat.{ℕ, zero, suc, _+_, _≤_, _<_}
 use native.Mathlib.Nat.{le-of-suc-le-suc, not-suc-le-zero, add-zero, zero-add, add-suc, suc-add}
 use native.Mathlib.Omega.{arith}
-use lib.Dec.{eqb}
 use lib.ListN.{length, getD}
-use borrow.Author.Tests.{eqb-true, eq-eqb}
 use Rattle.road.specs.declared.Road.{Road}
-use Rattle.choice.proofs.Choice.{both-first, both-second}
 use Rattle.flux.specs.Face.{letter}
 use Rattle.scheme.specs.Advance.{ahead, outflow, flows, entering, leaving, stepped, padded, faceFlows}
-use Rattle.scheme.specs.Sums.{sum, sameList}
+use Rattle.scheme.specs.Sums.{sum}
 use Rattle.scheme.specs.Partners.{Lawful}
 use Rattle.scheme.specs.Word.{wordOf}
 use Rattle.scheme.specs.Rounded.{roundStep}
@@ -88,16 +85,12 @@ same-cell {F = F} {G = G} lawful lawful′ up down xs k h left right =
       right,
     )
 
--- a step is still exactly when it keeps the letter at every face and the sum of the cells
-pub still-means : (r : Road) (caps : List ℕ) (up down : ℕ) (xs : List ℕ)
-    → (still r caps up down xs ≡ true) ↔ ((wordOf r up down (roundStep r caps up down xs) ≡ wordOf r up down xs) × (sum (roundStep r caps up down xs) ≡ sum xs))
+-- a step is still exactly when it keeps the list of cells
+pub still-means : (r : Road) (caps : List ℕ) (up down : ℕ) (xs : List ℕ) → (still r caps up down xs ≡ true) ↔ (roundStep r caps up down xs ≡ xs)
 unfolding still
-still-means r caps up down xs = (
-  λ e.
-      let words = sameList (wordOf r up down xs) (wordOf r up down (roundStep r caps up down xs)) in
-      let sums = eqb (sum xs) (sum (roundStep r caps up down xs)) in (
-        sym (same-lists (wordOf r up down xs) (wordOf r up down (roundStep r caps up down xs)) (both-first words sums e)),
-        sym (eqb-true (sum xs) (sum (roundStep r caps up down xs)) (both-second words sums e)),
-      ),
-  λ p. rw (p .0, p .1, lists-same (wordOf r up down xs)) (eq-eqb (sum xs) (sum xs) refl),
-)
+still-means r caps up down xs = (λ e. sym (same-lists xs (roundStep r caps up down xs) e), λ e. rw e (lists-same xs))
+
+-- so it keeps the letter at every face and the sum of the cells, which is document 01's still: no run stops sooner than by that one
+pub still-keeps : (r : Road) (caps : List ℕ) (up down : ℕ) (xs : List ℕ) → still r caps up down xs ≡ true
+    → (wordOf r up down (roundStep r caps up down xs) ≡ wordOf r up down xs) × (sum (roundStep r caps up down xs) ≡ sum xs)
+still-keeps r caps up down xs e = let same = still-means r caps up down xs .0 e in (ap (wordOf r up down) same, ap sum same)

@@ -36,11 +36,11 @@ below-set j (a ∷ x) (suc i) v h k (suc n) = below-set j x i v (λ m. h (suc m)
 
 -- one cell of the step, its outflow known
 module _ (F : ℕ → ℕ → ℕ → ℕ) (i w d own : ℕ) {x rest : List ℕ} (here : x ≡ own ∷ rest) (out : ℕ) (over : out ≡ F i own (ahead d rest)) where
-  pub advance-cell : advance 1 F i w d x ≡ (own + w - out) ∷ advance 1 F (suc i) out d rest
+  advance-cell : advance 1 F i w d x ≡ (own + w - out) ∷ advance 1 F (suc i) out d rest
   unfolding advance
   advance-cell = rw (here, over, one-mul own) refl
 
-  pub outflow-cell : outflow F i w d x ≡ outflow F (suc i) out d rest
+  outflow-cell : outflow F i w d x ≡ outflow F (suc i) out d rest
   unfolding outflow
   outflow-cell = rw (here, over) refl
 

@@ -1,26 +1,40 @@
--- The settling run: its steps are the least that a still step follows, and the loop of the code makes them.
+-- The settling run: its steps are the least that a still step follows, the loop of the code makes them, and they lead to the state of the full run.
 use mathlib.Core.Path.{_≡_, _∙_, refl, sym, ap}
 use mathlib.Core.Bool.{Bool, true, false, true≢false, false≢true}
 use mathlib.Core.List.{List}
 use Prim.Native.Nat.{ℕ, zero, suc, _+_, _-_, _≤_, _<_, suc-le-suc, zero-le}
-use native.Mathlib.Nat.{not-suc-le-zero, le-of-suc-le-suc, sub-zero, sub-eq-zero-of-le}
+use native.Mathlib.Nat.{not-suc-le-zero, le-of-suc-le-suc, zero-add, suc-add, sub-zero, sub-eq-zero-of-le}
 use native.Mathlib.Numerals.{add-one}
 use native.Mathlib.Omega.{arith}
-use lib.ListN.{length}
+use lib.ListN.{length, replicate}
 use Rattle.road.specs.declared.Road.{Road}
 use Rattle.scheme.specs.Sums.{Below}
 use Rattle.scheme.specs.Runs.{iterated}
-use Rattle.scheme.specs.Rounded.{roundStep}
-use Rattle.scheme.specs.Settling.{still, finds, stepsTo, Least, settles, settleSteps, settleCells, LeastStill}
+use Rattle.scheme.specs.Rounded.{roundStep, roundRun}
+use Rattle.scheme.specs.Settling.{still, after, finds, stepsTo, Least, settles, settleSteps, settleCells, LeastStill}
 use Rattle.scheme.specs.Calls.{SettledTo}
+use Rattle.scheme.proofs.Faces.{still-means}
+use Rattle.scheme.proofs.Promises.{after-run}
 
-module _ (S : List ℕ → List ℕ) (T : List ℕ → Bool) where
+module _ (S : List ℕ → List ℕ) where
   -- one step more, at the end or at the start
   iterated-more : (k : ℕ) (xs : List ℕ) → S (iterated S k xs) ≡ iterated S (suc k) xs
   unfolding iterated
   iterated-more zero xs = refl
   iterated-more (suc k) xs = iterated-more k (S xs)
 
+  -- k + m steps are m steps after k, and any number of steps keeps what one keeps
+  iterated-add : (k m : ℕ) (xs : List ℕ) → iterated S (k + m) xs ≡ iterated S m (iterated S k xs)
+  unfolding iterated
+  iterated-add zero m xs = ap (λ (n : ℕ). iterated S n xs) (zero-add m)
+  iterated-add (suc k) m xs = ap (λ (n : ℕ). iterated S n xs) (suc-add k m) ∙ iterated-add k m (S xs)
+
+  iterated-kept : (k : ℕ) (xs : List ℕ) → S xs ≡ xs → iterated S k xs ≡ xs
+  unfolding iterated
+  iterated-kept zero xs e = refl
+  iterated-kept (suc k) xs e = ap (iterated S k) e ∙ iterated-kept k xs e
+
+module _ (S : List ℕ → List ℕ) (T : List ℕ → Bool) where
   -- one turn of the search, by the test
   ends-here : (t : ℕ) (xs : List ℕ) → T xs ≡ true → (finds S T (suc t) xs ≡ true) × (stepsTo S T (suc t) xs ≡ 0)
   unfolding finds stepsTo
@@ -93,7 +107,7 @@ module _ {S : List ℕ → List ℕ} {T : List ℕ → Bool} {j t : ℕ} {old ce
       record {
         long = ap length s ∙ long ∙ now .long;
         below = rw s below;
-        reached = s ∙ ap S (now .reached) ∙ iterated-more S T k old;
+        reached = s ∙ ap S (now .reached) ∙ iterated-more S k old;
         steps-left = rw s (omega (arith, rw (one-less h) at (now .steps-left), on .1));
         finds-left = rw s (sym (on .0) ∙ rw (one-less h) at (now .finds-left));
       }
@@ -105,6 +119,25 @@ module _ (r : Road) (caps : List ℕ) (up down : ℕ) where
   pub least-still : (t : ℕ) (xs : List ℕ) → LeastStill r caps up down t xs (settles r caps up down t xs) (settleSteps r caps up down t xs)
   unfolding settles settleSteps
   least-still = least (roundStep r caps up down) (still r caps up down)
+
+  -- the steps of a settling run one after the other; from a still state on any number of them keeps every cell, for good
+  pub after-add : (k m : ℕ) (xs : List ℕ) → after r caps up down (k + m) xs ≡ after r caps up down m (after r caps up down k xs)
+  after-add = iterated-add (roundStep r caps up down)
+
+  pub after-still : (k : ℕ) (xs : List ℕ) → still r caps up down xs ≡ true → after r caps up down k xs ≡ xs
+  after-still k xs e = iterated-kept (roundStep r caps up down) k xs (still-means r caps up down xs .0 e)
+
+  -- the state handed back is that after all T steps, settled or not: "the full forecast over T steps with the same ends and caps" (document 02, E8)
+  pub full-run : (t : ℕ) (xs : List ℕ) → settleCells r caps up down t xs ≡ roundRun r caps (replicate t up) (replicate t down) xs
+  unfolding settleCells
+  full-run t xs = by-answer (settles r caps up down t xs) (settleSteps r caps up down t xs) (least-still t xs) ∙ after-run r caps up down t xs
+    where
+      by-answer : (settled : Bool) (k : ℕ) → LeastStill r caps up down t xs settled k → after r caps up down k xs ≡ after r caps up down t xs
+      by-answer true k l =
+          let within = l .within refl in
+          let rest : k + (t - k) ≡ t = omega arith in
+          sym (after-still (t - k) (after r caps up down k xs) (l .found refl)) ∙ sym (after-add k (t - k) xs) ∙ ap (λ (n : ℕ). after r caps up down n xs) rest
+      by-answer false k l = ap (λ (n : ℕ). after r caps up down n xs) (l .none refl)
 
   module _ {j t : ℕ} {old cells : List ℕ} {k : ℕ} (now : StillnessSought (roundStep r caps up down) (still r caps up down) j t old cells k) where
     -- a still step follows

@@ -1,139 +1,109 @@
--- The test of stillness, midway: the faces before i are compared, and the new densities are worked as the step does.
-use mathlib.Core.Path.{_≡_, _∙_, sym, ap, ap₂}
+-- Stillness by faces: a step is still exactly when all faces move the same units. And the code's test midway: the faces up to i are compared.
+use mathlib.Core.Path.{_≡_, _∙_, refl, sym, ap, ap₂}
 use mathlib.Core.Bool.{Bool, true, false}
-use mathlib.Core.List.{List, [], _∷_}
-use Prim.Native.Nat.{ℕ, suc, _+_, _-_, _≤_, _<_}
-use native.Mathlib.Nat.{one-mul, add-zero}
+use mathlib.Core.Logic.{_↔_}
+use mathlib.Core.List.{List, [], _∷_, _++_}
+use Prim.Native.Nat.{ℕ, zero, suc, _+_, _-_, _≤_, _<_}
+use native.Mathlib.Nat.{le-refl}
+use native.Mathlib.Decide.{decLe}
 use native.Mathlib.Numerals.{add-one}
-use native.Mathlib.Decide.{ℕ-discrete}
 use native.Mathlib.Omega.{arith}
-use lib.Dec.{eqb}
-use lib.ListN.{length, getD, drop, drop-of-length-le}
-use lib.Seq.{drop-cons}
-use borrow.Author.Tests.{eq-eqb, ne-eqb}
-use Rattle.choice.specs.Choice.{both}
+use lib.ListN.{length, getD, List·getD-append}
+use lib.Seq.{ext-getD, getD-append-seam}
 use Rattle.road.specs.Judgement.{Accepted}
 use Rattle.road.specs.declared.Road.{Road}
-use Rattle.choice.proofs.Choice.{both-true, both-false}
-use Rattle.flux.specs.Face.{letter}
-use Rattle.scheme.specs.Advance.{ahead, advance, outflow, entering, leaving, stepped}
-use Rattle.scheme.specs.Sums.{sum, sameList, Below}
+use Rattle.scheme.specs.Advance.{padded, faceFlows}
 use Rattle.scheme.specs.Rounded.{moved, roundStep}
-use Rattle.scheme.specs.Word.{wordOf}
-use Rattle.scheme.specs.Settling.{keepsLetters, still}
-use Rattle.scheme.proofs.Laws.{partners}
-use Rattle.scheme.proofs.Ahead.{ahead-at, enters}
-use Rattle.scheme.proofs.Balance.{stepped-balance}
-use Rattle.scheme.proofs.Range.{in-room}
-use Rattle.scheme.proofs.InPlace.{advance-cell}
+use Rattle.scheme.specs.Settling.{still}
+use Rattle.scheme.proofs.Shape.{stepped-length}
+use Rattle.scheme.proofs.Ahead.{enters}
+use Rattle.scheme.proofs.Faces.{flow-at, enters-first, still-means}
+use Rattle.scheme.proofs.Promises.{round-cell}
 
--- the comparison of the faces of a list, between old and new densities to its left
-abbrev compared : Road → List ℕ → ℕ → ℕ → ℕ → ℕ → ℕ → List ℕ → Bool
-compared r caps down old-left new-left i inflow xs =
-    sameList (wordOf r old-left down xs) (wordOf r new-left down (advance 1 (moved r caps) i inflow down xs))
+-- a test that does not hold
+fails : (b : Bool) → (b ≡ true → ⊥) → false ≡ b
+fails true n = absurd (n refl)
+fails false n = refl
 
-pub record LettersCompared (r : Road) (caps : List ℕ) (up down : ℕ) (x : List ℕ) (old-left new-left inflow i : ℕ) : Type 0 where
-  pub inside : i ≤ length x
-  pub old-below : old-left ≤ r .jam
-  pub new-below : new-left ≤ r .jam
-  pub room : i < length x → getD x i 0 + inflow ≤ r .jam
-  pub letters : compared r caps down old-left new-left (suc i) inflow (drop i x) ≡ keepsLetters r caps up down x
+module _ (r : Road) (caps : List ℕ) (up down : ℕ) (x : List ℕ) where
+  -- the units over face k
+  abbrev over : ℕ → ℕ
+  over k = getD (faceFlows (moved r caps) up down x) k 0
 
--- two tests of equal numbers that hold together are one
-same-test : (a b c d : ℕ) → (a ≡ b → c ≡ d) → (c ≡ d → a ≡ b) → eqb a b ≡ eqb c d
-same-test a b c d f g = by-case (ℕ-discrete a b)
-  where
-    by-case : Dec (a ≡ b) → eqb a b ≡ eqb c d
-    by-case (yes e) = eq-eqb a b e ∙ sym (eq-eqb c d (f e))
-    by-case (no n) = ne-eqb a b n ∙ sym (ne-eqb c d (λ e. n (g e)))
+  -- those over the right face of a cell, by what stands ahead of it
+  right-face : (k : ℕ) → k < length x → {next : ℕ} → getD (x ++ (down ∷ [])) (suc k) 0 ≡ next → over (suc k) ≡ moved r caps (suc k) (getD x k 0) next
+  unfolding padded
+  right-face k h e = flow-at (moved r caps) up down x (suc k) h ∙ ap₂ (moved r caps (suc k)) (List·getD-append x (down ∷ []) 0 k h) e
 
-module _ (r : Road) (caps : List ℕ) (ok : Accepted r) (up down : ℕ) (x : List ℕ) where
-  -- the sum of the cells is kept exactly when as much leaves as enters
-  sum-kept : eqb (entering (moved r caps) up down x) (leaving (moved r caps) up down x) ≡ eqb (sum x) (sum (roundStep r caps up down x))
-  sum-kept =
-      let balance = rw one-mul at (stepped-balance (partners r caps ok .rounded) up down x) in
-      same-test (entering (moved r caps) up down x) (leaving (moved r caps) up down x) (sum x) (sum (stepped 1 (moved r caps) up down x))
-      (λ e. omega arith) (λ e. omega arith)
+  inner-face : (k : ℕ) → k + 1 < length x → over (k + 1) ≡ moved r caps (k + 1) (getD x k 0) (getD x (k + 1) 0)
+  inner-face k = rw (add-one k) (λ h. right-face k (omega arith) (List·getD-append x (down ∷ []) 0 (suc k) h))
 
-  -- the flow over the last face, which the last cell sends: of n cells whose first has face i on its right, that is face i + n − 1
-  outflow-last : (i inflow : ℕ) (xs : List ℕ) → 0 < length xs → moved r caps (i + (length xs - 1)) (getD xs (length xs - 1) 0) down ≡ outflow (moved r caps) i inflow down xs
-  unfolding outflow ahead
-  outflow-last i inflow [] h = absurd (omega arith)
-  outflow-last i inflow (a ∷ []) h = ap (λ (k : ℕ). moved r caps k a down) (add-zero i)
-  outflow-last i inflow (a ∷ b ∷ xs) h =
-      let less : length (a ∷ b ∷ xs) - 1 ≡ suc (length (b ∷ xs) - 1) = omega arith in
-      let face : i + (length (a ∷ b ∷ xs) - 1) ≡ suc i + (length (b ∷ xs) - 1) = omega arith in
-      ap₂ (λ (f k : ℕ). moved r caps f (getD (a ∷ b ∷ xs) k 0) down) face less ∙ outflow-last (suc i) (moved r caps i a b) (b ∷ xs) (omega arith)
+  first-face : 0 < length x → over 0 ≡ moved r caps 0 up (getD x 0 0)
+  first-face pos = sym (enters-first (moved r caps) up down x) ∙ enters (moved r caps) up down x pos
 
-  last-leaves : 0 < length x → {last : ℕ} → last ≡ moved r caps (length x) (getD x (length x - 1) 0) down → last ≡ leaving (moved r caps) up down x
-  unfolding leaving
-  last-leaves pos e =
-      let face : length x ≡ 1 + (length x - 1) = omega arith in
-      e ∙ ap (λ (k : ℕ). moved r caps k (getD x (length x - 1) 0) down) face ∙ outflow-last 1 (entering (moved r caps) up down x) x pos
+  last-face : 0 < length x → over (length x) ≡ moved r caps (length x) (getD x (length x - 1) 0) down
+  last-face pos =
+      let same : suc (length x - 1) ≡ length x = omega arith in
+      rw same at (right-face (length x - 1) (omega arith) (ap (λ (k : ℕ). getD (x ++ (down ∷ [])) k 0) same ∙ getD-append-seam x down [] 0))
 
-  -- where both are equal the letters decide; otherwise the step is not still
-  module _ (pos : 0 < length x) {first last : ℕ} (e : first ≡ moved r caps 0 up (getD x 0 0))
-      (q : last ≡ moved r caps (length x) (getD x (length x - 1) 0) down) where
-    sums : eqb first last ≡ eqb (sum x) (sum (roundStep r caps up down x))
-    sums = ap₂ eqb (e ∙ sym (enters (moved r caps) up down x pos)) (last-leaves pos q) ∙ sum-kept
+  module _ (ok : Accepted r) where
+    -- a cell keeps its density exactly where as much leaves as enters, since no more leaves than it holds
+    kept-even : roundStep r caps up down x ≡ x → (k : ℕ) → k ≤ length x → over k ≡ over 0
+    kept-even e zero h = refl
+    kept-even e (suc k) h =
+        omega (arith, round-cell r caps ok up down x k h, ap (λ (l : List ℕ). getD l k 0) e, kept-even e k (omega arith))
 
-    pub equal : first ≡ last → keepsLetters r caps up down x ≡ still r caps up down x
-    unfolding still
-    equal h = sym (ap (both (keepsLetters r caps up down x)) (sym sums ∙ eq-eqb first last h) ∙ both-true (keepsLetters r caps up down x))
+    even-kept : ((k : ℕ) → k ≤ length x → over k ≡ over 0) → roundStep r caps up down x ≡ x
+    even-kept even =
+        let long = stepped-length 1 (moved r caps) up down x in
+        ext-getD 0 (roundStep r caps up down x) x long
+        (λ k l. let h = rw long at l in omega (arith, round-cell r caps ok up down x k h, even k (omega arith), even (suc k) h))
 
-    pub unequal : (first ≡ last → ⊥) → false ≡ still r caps up down x
-    unfolding still
-    unequal n = sym (ap (both (keepsLetters r caps up down x)) (sym sums ∙ ne-eqb first last n) ∙ both-false (keepsLetters r caps up down x))
+    -- still: all n+1 faces move the same units
+    pub even-flows : (still r caps up down x ≡ true) ↔ ((k : ℕ) → k ≤ length x → getD (faceFlows (moved r caps) up down x) k 0 ≡ getD (faceFlows (moved r caps) up down x) 0 0)
+    even-flows =
+        let (keeps, kept) = still-means r caps up down x in
+        (λ e. kept-even (keeps e), λ even. kept (even-kept even))
 
-module _ {r : Road} {caps : List ℕ} (ok : Accepted r) where
-  pub begins : (up down : ℕ) (x : List ℕ) {first : ℕ} → Below (r .jam) x → up ≤ r .jam → first ≡ entering (moved r caps) up down x → LettersCompared r caps up down x up up first 0
-  unfolding stepped
-  begins up down x h u e = record {
-    inside = omega arith;
-    old-below = u;
-    new-below = u;
-    room = λ l. rw (e, enters (moved r caps) up down x l) (in-room (partners r caps ok .rounded) 0 up (getD x 0 0) (h 0));
-    letters = ap (λ (w : ℕ). compared r caps down up up 1 w x) e;
-  }
+-- the faces up to i move the same units
+pub record EvenSoFar (r : Road) (caps : List ℕ) (up down : ℕ) (x : List ℕ) (first i : ℕ) : Type 0 where
+  pub inside : i < length x
+  pub even : (k : ℕ) → k ≤ i → over r caps up down x k ≡ first
 
-  module _ {up down : ℕ} {x : List ℕ} {old-left new-left inflow i : ℕ} (now : LettersCompared r caps up down x old-left new-left inflow i) where
-    -- the next face with its new density, by what the code worked out
-    module _ {next out : ℕ} (h : i < length x) (n : next ≡ ahead down (drop (suc i) x)) (e : out ≡ moved r caps (suc i) (getD x i 0) next) where
-      cell : both (eqb (letter r old-left (getD x i 0)) (letter r new-left (getD x i 0 + inflow - out)))
-          (compared r caps down (getD x i 0) (getD x i 0 + inflow - out) (suc (suc i)) out (drop (suc i) x)) ≡ keepsLetters r caps up down x
-      unfolding wordOf sameList
-      cell =
-          let own = getD x i 0 in
-          let here : drop i x ≡ own ∷ drop (suc i) x = drop-cons x i 0 h in
-          let over : out ≡ moved r caps (suc i) own (ahead down (drop (suc i) x)) = e ∙ ap (moved r caps (suc i) own) n in
-          sym (ap₂ sameList (ap (wordOf r old-left down) here) (ap (wordOf r new-left down) (advance-cell (moved r caps) (suc i) inflow down own here out over)))
-          ∙ now .letters
+module _ {r : Road} {caps : List ℕ} (ok : Accepted r) {up down : ℕ} {x : List ℕ} where
+  pub begins : {first : ℕ} → 0 < length x → first ≡ moved r caps 0 up (getD x 0 0) → EvenSoFar r caps up down x first 0
+  begins {first} pos e = record { inside = pos; even = only }
+    where
+      only : (k : ℕ) → k ≤ 0 → over r caps up down x k ≡ first
+      only zero h = first-face r caps up down x pos ∙ sym e
+      only (suc k) h = absurd (omega arith)
 
-      changed : eqb (letter r old-left (getD x i 0)) (letter r new-left (getD x i 0 + inflow - out)) ≡ false → false ≡ keepsLetters r caps up down x
-      changed k = rw k at cell
+  module _ {first i : ℕ} (now : EvenSoFar r caps up down x first i) where
+    -- some face moves other units
+    uneven : (k : ℕ) → k ≤ length x → {units : ℕ} → units ≡ over r caps up down x k → (units ≡ first → ⊥) → false ≡ still r caps up down x
+    uneven k h e n = fails (still r caps up down x) (λ s. n (e ∙ even-flows r caps up down x ok .0 s k h ∙ now .even 0 (omega arith)))
 
-      turn : eqb (letter r old-left (getD x i 0)) (letter r new-left (getD x i 0 + inflow - out)) ≡ true → Below (r .jam) x
-          → LettersCompared r caps up down x (getD x i 0) (getD x i 0 + inflow - out) out (suc i)
-      turn k below = record {
-        inside = h;
-        old-below = below i;
-        new-below = let room = now .room h in omega arith;
-        room = λ l.
-            let same-next : next ≡ getD x (suc i) 0 = n ∙ ahead-at down (suc i) x l in
-            rw (← same-next, e) (in-room (partners r caps ok .rounded) (suc i) (getD x i 0) next (rw same-next (below (suc i))));
-        letters = rw k at cell;
-      }
+    pub ends-uneven : {last : ℕ} → last ≡ moved r caps (length x) (getD x (length x - 1) 0) down → (last ≡ first → ⊥) → false ≡ still r caps up down x
+    ends-uneven e = uneven (length x) (le-refl (length x)) (e ∙ sym (last-face r caps up down x (let h = now .inside in omega arith)))
 
-    -- the same, with the index as the code has it
-    pub changes : {next out : ℕ} → i < length x → next ≡ ahead down (drop (i + 1) x) → out ≡ moved r caps (i + 1) (getD x i 0) next
-        → eqb (letter r old-left (getD x i 0)) (letter r new-left (getD x i 0 + inflow - out)) ≡ false → false ≡ keepsLetters r caps up down x
-    changes = rw (add-one i) changed
+    pub turns-uneven : {inner : ℕ} → i + 1 < length x → inner ≡ moved r caps (i + 1) (getD x i 0) (getD x (i + 1) 0) → (inner ≡ first → ⊥) → false ≡ still r caps up down x
+    turns-uneven h e = uneven (i + 1) (omega arith) (e ∙ sym (inner-face r caps up down x i h))
 
-    pub turns : {next out : ℕ} → i < length x → next ≡ ahead down (drop (i + 1) x) → out ≡ moved r caps (i + 1) (getD x i 0) next
-        → eqb (letter r old-left (getD x i 0)) (letter r new-left (getD x i 0 + inflow - out)) ≡ true → Below (r .jam) x
-        → LettersCompared r caps up down x (getD x i 0) (getD x i 0 + inflow - out) out (i + 1)
-    turns = rw (add-one i) turn
+    -- one face more that moves the same
+    one-more : over r caps up down x (i + 1) ≡ first → (k : ℕ) → k ≤ i + 1 → over r caps up down x k ≡ first
+    one-more e k l = by-place (decLe k i)
+      where
+        by-place : Dec (k ≤ i) → over r caps up down x k ≡ first
+        by-place (yes before) = now .even k before
+        by-place (no beyond) = let here : k ≡ i + 1 = omega arith in ap (over r caps up down x) here ∙ e
 
-    pub ends : length x ≤ i → eqb (letter r old-left down) (letter r new-left down) ≡ keepsLetters r caps up down x
-    unfolding wordOf sameList advance
-    ends h = sym (both-true (eqb (letter r old-left down) (letter r new-left down))) ∙ (rw (drop-of-length-le x h) at (now .letters))
+    pub turns : {inner : ℕ} → i + 1 < length x → inner ≡ moved r caps (i + 1) (getD x i 0) (getD x (i + 1) 0) → inner ≡ first → EvenSoFar r caps up down x first (i + 1)
+    turns h e same = record { inside = h; even = one-more (inner-face r caps up down x i h ∙ sym e ∙ same) }
+
+    -- the last face is the one beyond i
+    pub ends : {last : ℕ} → length x ≤ i + 1 → last ≡ moved r caps (length x) (getD x (length x - 1) 0) down → last ≡ first → true ≡ still r caps up down x
+    ends h e same =
+        let inside = now .inside in
+        let all : length x ≡ i + 1 = omega arith in
+        let beyond = rw all at (last-face r caps up down x (omega arith) ∙ sym e ∙ same) in
+        sym (even-flows r caps up down x ok .1 (λ k l. one-more beyond k (rw all at l) ∙ sym (now .even 0 (omega arith))))

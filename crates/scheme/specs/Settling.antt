@@ -1,23 +1,17 @@
--- The settling run: one end pair for all steps, up to the first still step (document 01, "Step, forecast and settling").
+-- The settling run: one end pair for all steps, up to the first still step (document 01, "Step, forecast and settling"), still as document 02, E8, has it.
 use mathlib.Core.Path.{_≡_}
 use mathlib.Core.Bool.{Bool, true, false}
 use mathlib.Core.List.{List}
 use Prim.Native.Nat.{ℕ, zero, suc, _<_}
-use lib.Dec.{eqb}
-use Rattle.choice.specs.Choice.{pick, both}
+use Rattle.choice.specs.Choice.{pick}
 use Rattle.road.specs.declared.Road.{Road}
-use Rattle.scheme.specs.Sums.{sum, sameList}
+use Rattle.scheme.specs.Sums.{sameList}
 use Rattle.scheme.specs.Runs.{iterated}
-use Rattle.scheme.specs.Word.{wordOf}
 use Rattle.scheme.specs.Rounded.{roundStep}
 
--- the step keeps the letter at every face: the step obeys the caps, the letters "describe the road without caps" (document 02, E7)
-abbrev pub keepsLetters : Road → List ℕ → ℕ → ℕ → List ℕ → Bool
-keepsLetters r caps up down xs = sameList (wordOf r up down xs) (wordOf r up down (roundStep r caps up down xs))
-
--- still: it keeps the letter at every face and the sum of the cells
+-- "A step is now still exactly when every single density is kept" (document 02, E8): number by number, under the caps. It replaces document 01's still, which asked for the letters and the sum
 unfoldable pub still : Road → List ℕ → ℕ → ℕ → List ℕ → Bool
-still r caps up down xs = both (keepsLetters r caps up down xs) (eqb (sum xs) (sum (roundStep r caps up down xs)))
+still r caps up down xs = sameList xs (roundStep r caps up down xs)
 
 -- the cells after k steps with the one end pair
 abbrev pub after : Road → List ℕ → ℕ → ℕ → ℕ → List ℕ → List ℕ

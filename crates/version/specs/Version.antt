@@ -5,11 +5,11 @@ abbrev pub major : ℕ
 major = 0
 
 abbrev pub minor : ℕ
-minor = 8
+minor = 9
 
 abbrev pub patch : ℕ
 patch = 0
 
--- 0.8.0 is 800: ten thousand a major, a hundred a minor version
+-- 0.9.0 is 900: ten thousand a major, a hundred a minor version
 abbrev pub versionNumber : ℕ
 versionNumber = major * 10000 + minor * 100 + patch

@@ -40,6 +40,8 @@ pub const ABOVE_ABOVE: u8 = 24;
 
 pub const TWO_300: u8 = 25;
 
+pub const UNIT_EMPTY: u8 = 26;
+
 // Three densities: of the document's worked case, with some of them above J, and nearly empty.
 pub const CELLS: u8 = 30;
 
@@ -92,6 +94,7 @@ pub fn list(name: u8) -> [u32; 3]
         ABOVE_EMPTY => [1001, 0, 0],
         ABOVE_ABOVE => [1001, 1001, 0],
         TWO_300 => [300, 300, 0],
+        UNIT_EMPTY => [1, 0, 0],
         CELLS => [300, 150, 700],
         ABOVE_AT_2 => [300, 1001, 700],
         ABOVE_AT_3 => [300, 150, 1001],

@@ -47,8 +47,11 @@ pub const J_9: u8 = 16;
 
 pub const J_5: u8 = 17;
 
+// The road with D and J at their ceilings and the least speeds.
+pub const SLOWEST: u8 = 18;
+
 // The road of five largest numbers, and of any other name.
-pub const LARGEST: u8 = 18;
+pub const LARGEST: u8 = 19;
 
 // A road from its five numbers: D, p, q, J, C.
 fn of(divisor: u32, free: u32, wave: u32, jam: u32, critical: u32) -> Road {
@@ -84,6 +87,7 @@ pub fn road(name: u8) -> Road {
         D_2177 => of(2177, 13, 2177, 998_640, 992_712),
         J_9 => of(2, 1, 2, 9, 6),
         J_5 => of(5, 2, 3, 5, 3),
+        SLOWEST => of(4096, 1, 1, 1_000_000, 500_000),
         _ => of(MOST, MOST, MOST, MOST, MOST),
     }
 }

@@ -297,7 +297,23 @@ fn capped_faces() {
     });
 }
 
-/// What a settling run answers, the same as C makes it, by the safe function and by the reference.
+/// The cells after a forecast that has the one pair of ends in every step, from totals of 0.
+fn full_forecast(
+    road: [u32; 5],
+    cells: &[u32],
+    up: u32,
+    down: u32,
+    horizon: u32,
+    caps: &[u32],
+) -> Result<Vec<u32>, Refused> {
+    let [up, down] = [up, down].map(|end| vec![end; horizon as usize]);
+    let (mut totals, mut out) = (Totals::default(), vec![0x5a5a_5a5a; cells.len()]);
+    let answer = welgadou::forecast(&road_of(road), cells, &up, &down, horizon, caps, &mut totals, &mut out);
+    own_of(answer).map(|_| out)
+}
+
+/// What a settling run answers, the same as C makes it, by the safe function and by the reference. Settled or not, its
+/// cells are those of the full forecast.
 fn settle(
     road: [u32; 5],
     cells: &[u32],
@@ -326,6 +342,7 @@ fn settle(
             let report = welgadou::Settlement { settled: done.settled, steps: done.steps };
             assert_eq!(by_rust, Ok(report), "{}", input());
             assert_eq!(buffer, done.cells, "{}", input());
+            assert_eq!(full_forecast(road, cells, up, down, horizon, caps), Ok(buffer), "{}", input());
         }
         Err(refused) => {
             assert_eq!(by_rust.map_err(pair_of), Err(*refused), "{}", input());
@@ -333,6 +350,16 @@ fn settle(
         }
     }
     expected
+}
+
+/// Whether one of so many steps, none of them still, keeps the sum of the cells: a look at it goes on past the two ends.
+fn keeps_a_sum(road: [u32; 5], cells: &[u32], up: u32, down: u32, caps: &[u32], steps: u32) -> bool {
+    let mut x = cells.to_vec();
+    (0..steps).any(|_| {
+        let (next, own, _) = raw::forecast(road, &x, &[up], &[down], 1, caps, [0, 0], x.len()).expect("accepted");
+        x = next;
+        own[0] == own[1]
+    })
 }
 
 fn one_settle(g: &mut Random, work: usize) -> Kind {
@@ -371,15 +398,21 @@ fn one_settle(g: &mut Random, work: usize) -> Kind {
         }
     }
     let answer = settle(road, &cells, up, down, horizon, &caps, out);
-    kind_of(&answer, |done| match (done.settled, done.steps) {
-        (true, 0) => " settled at once",
-        (true, _) => " settled",
-        (false, _) => " unsettled",
+    kind_of(&answer, |done| {
+        let sum_kept = keeps_a_sum(road, &cells, up, down, &caps, done.steps);
+        match (done.settled, done.steps, sum_kept) {
+            (true, 0, _) => " settled at once",
+            (true, _, false) => " settled",
+            (true, _, true) => " settled, sum kept before",
+            (false, _, false) => " unsettled",
+            (false, _, true) => " unsettled, sum kept",
+        }
     })
 }
 
 const SETTLE: [u32; 11] = [1, 2, 3, 4, 5, 6, 8, 20, 9, 10, 11];
-const SETTLE_WORDS: [&str; 3] = [" settled at once", " settled", " unsettled"];
+const SETTLE_WORDS: [&str; 5] =
+    [" settled at once", " settled", " settled, sum kept before", " unsettled", " unsettled, sum kept"];
 
 #[test]
 fn settling_runs() {
@@ -1213,6 +1246,34 @@ fn fixed_caps() {
     }
     assert_eq!(forecast(ROAD_A, &[101], &[], &[0], 1, &[], full, 1), Err((7, 0)));
     assert_eq!(forecast(ROAD_A, &[101], &[0], &[0], 1, &[9, 9], full, 1), Err((19, 0)));
+}
+
+/// The request on stillness: road, upstream end, cells, downstream end, caps and horizon; whether settled, the steps and
+/// the cells. In its own case, which is first, a step keeps the letters and the sum, and no density.
+#[test]
+fn fixed_stillness() {
+    const UNIT_ROAD: [u32; 5] = [1, 1, 1, 2, 1];
+    let first_step = Forecast { cells: vec![0, 1], own: [0, 0], totals: [0, 0] };
+    assert_eq!(forecast(UNIT_ROAD, &[1, 0], &[0], &[0], 1, &open(2), [0, 0], 2), Ok(first_step));
+
+    let slow_road = [4096, 1, 1, 1_000_000, 500_000];
+    let runs = [
+        (UNIT_ROAD, 0, vec![1, 0], 0, open(2), 9, true, 2, vec![0, 0]),
+        (UNIT_ROAD, 0, vec![1, 0], 0, open(2), 1, false, 1, vec![0, 1]),
+        (UNIT_ROAD, 0, vec![1, 0], 0, open(2), 2, false, 2, vec![0, 0]),
+        (UNIT_ROAD, 0, vec![1, 0], 0, open(2), 3, true, 2, vec![0, 0]),
+        (UNIT_ROAD, 0, vec![0, 0], 0, open(2), 0, false, 0, vec![0, 0]),
+        (ROAD_A, 0, vec![2], 0, open(1), 9, true, 1, vec![0]),
+        (ROAD_A, 39, vec![34, 39], 0, open(2), 50, true, 4, vec![39, 39]),
+        (ROAD_A, 1000, vec![300, 300], 0, vec![50, 49, 50], 9, false, 9, vec![309, 291]),
+        (ROAD_A, 1000, vec![300, 300], 0, vec![50, 50, 50], 9, true, 0, vec![300, 300]),
+        (ROAD_A, 1000, vec![0; 256], 0, open(256), 1440, true, 387, vec![200; 256]),
+        (slow_road, 0, vec![500_000], 0, open(1), 1440, false, 1440, vec![351_779]),
+    ];
+    for (road, up, start, down, caps, horizon, settled, steps, cells) in runs {
+        let answer = settle(road, &start, up, down, horizon, &caps, start.len());
+        assert_eq!(answer, Ok(Settled { cells, settled, steps }), "cells {start:?}, caps {caps:?}, horizon {horizon}");
+    }
 }
 
 /// The cases of the request on stations, to the bit.

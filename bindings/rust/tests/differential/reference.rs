@@ -264,7 +264,7 @@ pub struct Settled {
     pub steps: u32,
 }
 
-/// Whether a step is still goes by the letters of the road, which has no caps; the step itself keeps to the caps.
+/// A step is "still exactly when every single density is kept".
 pub fn settle(
     r: [u32; 5],
     cells: &[u32],
@@ -292,9 +292,7 @@ pub fn settle(
     let mut x = wide(cells);
     for k in 0..horizon {
         let (next, _) = step(r, caps, &x, up, down);
-        let keeps_letters = word_of(r, &x, up, down) == word_of(r, &next, up, down);
-        let keeps_sum = x.iter().sum::<i128>() == next.iter().sum::<i128>();
-        if keeps_letters && keeps_sum {
+        if next == x {
             return Ok(Settled { cells: narrow(&x), settled: true, steps: k });
         }
         x = next;

@@ -2,8 +2,8 @@
 use mathlib.Core.Path.{sym}
 use Rattle.scheme.proofs.Ahead.{ahead-at, ahead-past}
 use borrow.Author.Needs.{needs}
-use Rattle.scheme.proofs.settling.density_at.Statement.{statement}
-use Rattle.scheme.proofs.settling.density_at.Tie as tie
+use Rattle.scheme.proofs.neighbours.density_at.Statement.{statement}
+use Rattle.scheme.proofs.neighbours.density_at.Tie as tie
 
 returns : tie.Need-returns
 returns c =
