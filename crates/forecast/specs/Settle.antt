@@ -102,7 +102,7 @@ PairByFaces r caps up down k cells next =
 abbrev pub fullForecast : Road → List ℕ → List ℕ → ℕ → ℕ → ℕ → Call
 fullForecast r caps cells up down t = record { road = r; caps = caps; horizon = t; ups = replicate t up; downs = replicate t down; out = cells }
 
--- made of the same cells, with both totals 0
+-- the site where it is made: the same cells, both totals 0
 abbrev pub fromZero : List ℕ → Site
 fromZero cells = record { cells = cells; totals = record { entered = 0; left = 0 } }
 
