@@ -17,7 +17,8 @@ enum { ONE_MORE = 1 };
 enum { ONE_MORE = 0 };
 #endif
 
-enum { CELLS = 256, STEPS = 4096, FAR_STEPS = 400, FAR_FLOW = 50, ROUNDS = 60, KERNELS = 7, SIZES = 4 };
+enum { CELLS = 256, STEPS = WELGADOU_HORIZON_CEILING, FAR_STEPS = 400, FAR_FLOW = 50 };
+enum { ROUNDS = 60, KERNELS = 7, SIZES = 4 };
 
 /* The input, and what each kernel made of it. */
 static const struct road road = { 4095, 3276, 819, 1000000, 200000 };
@@ -139,12 +140,12 @@ static const struct contest {
     int kernels, calls, steps;
     void (*run)(int k, size_t n, uint32_t steps);
 } contests[] = {
-    { "forecast", FORECASTERS, 1, STEPS, run_forecast },
-    { "forecast, narrow caps", FORECASTERS, 1, STEPS, run_narrow_forecast },
+    { "forecast", FORECASTERS, 3, STEPS, run_forecast },
+    { "forecast, narrow caps", FORECASTERS, 3, STEPS, run_narrow_forecast },
     { "forecast, one step", FORECASTERS, 1000, 1, run_forecast },
     { "forecast, one step, narrow caps", FORECASTERS, 1000, 1, run_narrow_forecast },
-    { "settle", SETTLERS, 1, STEPS, run_settle },
-    { "settle, narrow caps", SETTLERS, 1, STEPS, run_narrow_settle },
+    { "settle", SETTLERS, 3, STEPS, run_settle },
+    { "settle, narrow caps", SETTLERS, 3, STEPS, run_narrow_settle },
     { "settle, far looks", FAR_SETTLERS, 10, FAR_STEPS, run_far_settle },
     { "read", { "plain C", "tuned C, two passes", EARLIER("before") "welgadou_read" }, 3 + ONE_MORE, 1000, 0, run_read },
     { "rows", { "plain C", "tuned C, two passes", EARLIER("before") "welgadou_rows" }, 3 + ONE_MORE, 1000, 0, run_rows },

@@ -162,8 +162,8 @@
 extern "C" {
 #endif
 
-/* The version of this header: ten thousand a major, a hundred a minor version. 0.9.0 is 900. */
-#define WELGADOU_VERSION 900
+/* The version of this header: ten thousand a major, a hundred a minor version. 0.10.0 is 1000. */
+#define WELGADOU_VERSION 1000
 
 /* Returns: the version of the library that is linked, WELGADOU_VERSION where it is the one of this header. */
 uint32_t welgadou_version(void);
@@ -195,7 +195,7 @@ typedef struct {
  * ------------------------------------------------------------------------------------------------------------------ */
 
 #define WELGADOU_CELLS_CEILING 256u
-#define WELGADOU_HORIZON_CEILING 4096u
+#define WELGADOU_HORIZON_CEILING 1440u
 #define WELGADOU_DIVISOR_CEILING 4096u
 #define WELGADOU_JAM_CEILING 1000000u
 #define WELGADOU_COUNT_CEILING 40u

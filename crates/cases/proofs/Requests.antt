@@ -106,4 +106,13 @@ requested = record {
   still-9 = refl;
   still-9-cells = refl;
   still-9-full = refl;
+  steps-1440 = refl;
+  steps-1440-ends-1439 = refl;
+  steps-1441 = refl;
+  steps-1441-ends-1440 = refl;
+  steps-1441-no-cells = refl;
+  steps-4096 = refl;
+  settling-1440 = refl;
+  settling-1441 = refl;
+  settling-1441-output-2 = refl;
 }

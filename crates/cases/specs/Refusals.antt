@@ -1,4 +1,4 @@
--- Every number of the refusal table (document 01, "Where each refusal is made"; document 02, E1, E3, E4 and E7), pinned by an input: one record, one field a number of a call.
+-- Every number of the refusal table (document 01, "Where each refusal is made"; document 02, E1, E3, E4, E7 and E9), pinned by an input: one record, one field a number of a call.
 -- But where a comment says otherwise the named row alone applies to its input, so that no two numbers can be exchanged. Where a row has a place and room for it, a later
 -- offence stands behind the first one.
 use mathlib.Core.Path.{_≡_}
@@ -87,7 +87,7 @@ pub record Refusals : Type 0 where
   pub forecast-4 : forecastAnswer road4 (openCaps 3) three ups downs 3 none 3 ≡ Forecast.Refused (refused 4 0)
   pub forecast-5-none : forecastAnswer roadA (openCaps 0) [] ups downs 3 none 0 ≡ Forecast.Refused (refused 5 0)
   pub forecast-5-many : forecastAnswer roadA (openCaps 257) (replicate 257 0) ups downs 3 none 257 ≡ Forecast.Refused (refused 5 0)
-  pub forecast-6 : forecastAnswer roadA (openCaps 3) three (replicate 4097 0) (replicate 4097 0) 4097 none 3 ≡ Forecast.Refused (refused 6 0)
+  pub forecast-6 : forecastAnswer roadA (openCaps 3) three (replicate 1441 0) (replicate 1441 0) 1441 none 3 ≡ Forecast.Refused (refused 6 0)
   pub forecast-7-up : forecastAnswer roadA (openCaps 3) three two downs 3 none 3 ≡ Forecast.Refused (refused 7 0)
   pub forecast-7-down : forecastAnswer roadA (openCaps 3) three ups two 3 none 3 ≡ Forecast.Refused (refused 7 0)
   pub forecast-8 : forecastAnswer roadA (openCaps 3) three ups downs 3 none 2 ≡ Forecast.Refused (refused 8 0)
@@ -109,7 +109,7 @@ pub record Refusals : Type 0 where
   pub settle-3 : settleAnswer road3 (openCaps 3) three 100 0 9 3 ≡ Settle.Refused (refused 3 0)
   pub settle-4 : settleAnswer road4 (openCaps 3) three 100 0 9 3 ≡ Settle.Refused (refused 4 0)
   pub settle-5 : settleAnswer roadA (openCaps 0) [] 100 0 9 0 ≡ Settle.Refused (refused 5 0)
-  pub settle-6 : settleAnswer roadA (openCaps 3) three 100 0 4097 3 ≡ Settle.Refused (refused 6 0)
+  pub settle-6 : settleAnswer roadA (openCaps 3) three 100 0 1441 3 ≡ Settle.Refused (refused 6 0)
   pub settle-8 : settleAnswer roadA (openCaps 3) three 100 0 9 2 ≡ Settle.Refused (refused 8 0)
   -- 20 likewise
   pub settle-20-none : settleAnswer roadA [] three 100 0 9 3 ≡ Settle.Refused (refused 20 0)

@@ -1,10 +1,10 @@
 -- The values of document 02, request by request: one record, one field a value. E1, E3, E4, E5 and E7 print none: their values are worked from their words. Where no caps are named they are open. Those of E2 on
--- road A are among the starred cases, E6 prints those of two cells, and E8 those of one step.
+-- road A are among the starred cases, E6 prints those of two cells, E8 those of one step, and E9 two horizons.
 use mathlib.Core.Path.{_≡_}
 use mathlib.Core.Bool.{Bool, true, false}
 use mathlib.Core.List.{List, [], _∷_}
 use Prim.Native.Nat.{ℕ, _+_}
-use lib.ListN.{length}
+use lib.ListN.{length, replicate}
 use lib.IntN.{ℤ, pos, negsuc}
 use lib.Ieee.{Float, binary64, ofBits}
 use Rattle.road.specs.Table.{refused}
@@ -109,6 +109,13 @@ cellsWithin t = settleOutput unitRoad (openCaps 2) oneUnit 0 0 t oneUnit
 abbrev pub reported : Bool → ℕ → SettleAnswer
 reported settled steps = Settle.Done (record { settled = settled; steps = steps })
 
+-- E9: of road A one empty cell between so many empty ends a side, over T steps; and a settling run of one full cell within T steps, into an output of so many
+abbrev pub emptyOver : ℕ → ℕ → ForecastAnswer
+emptyOver t ends = forecastAnswer roadA (openCaps 1) (0 ∷ []) (replicate ends 0) (replicate ends 0) t none 1
+
+abbrev pub fullWithin : ℕ → ℕ → SettleAnswer
+fullWithin t out = settleAnswer roadA (openCaps 1) (1000 ∷ []) 0 0 t out
+
 pub record Requested : Type 0 where
   -- E1, station readings
   pub density-1000 : gives (Density (whole 1000)) 1000
@@ -171,3 +178,14 @@ pub record Requested : Type 0 where
   pub still-9 : reportWithin 9 ≡ reported true 2
   pub still-9-cells : cellsWithin 9 ≡ 0 ∷ 0 ∷ []
   pub still-9-full : fullCells unitRoad (openCaps 2) oneUnit 0 0 9 ≡ 0 ∷ 0 ∷ []
+  -- E9, the longest run in use: "1,440 is accepted, 1,441 gives 6", which stands after 5 and before 7 and 8; Level 1's 4,096 gives it too
+  pub steps-1440 : emptyOver 1440 1440 ≡ made none none
+  pub steps-1440-ends-1439 : emptyOver 1440 1439 ≡ Forecast.Refused (refused 7 0)
+  pub steps-1441 : emptyOver 1441 1441 ≡ Forecast.Refused (refused 6 0)
+  pub steps-1441-ends-1440 : emptyOver 1441 1440 ≡ Forecast.Refused (refused 6 0)
+  pub steps-1441-no-cells : forecastAnswer roadA (openCaps 0) [] (replicate 1441 0) (replicate 1441 0) 1441 none 0 ≡ Forecast.Refused (refused 5 0)
+  pub steps-4096 : emptyOver 4096 4096 ≡ Forecast.Refused (refused 6 0)
+  -- "for settling runs too"
+  pub settling-1440 : fullWithin 1440 1 ≡ reported true 9
+  pub settling-1441 : fullWithin 1441 1 ≡ Settle.Refused (refused 6 0)
+  pub settling-1441-output-2 : fullWithin 1441 2 ≡ Settle.Refused (refused 6 0)

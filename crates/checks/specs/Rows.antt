@@ -1,4 +1,4 @@
--- The refusal table of document 01 and of document 02 up to E7, whole: a named row for each number. A call's table is a list of these names, in the call's order of checks.
+-- The refusal table of document 01 and of document 02 up to E9, whole: a named row for each number. A call's table is a list of these names, in the call's order of checks.
 --
 --   number   row                        defined in                place reported
 --   1        divisorRow                 road, Judgement           0

@@ -82,7 +82,8 @@ pub fn shades() -> [u8; SHADES]
     [0u8; SHADES]
 }
 
-// A row of the picture's bytes: the widest has a pixel for each step and one for the start, filled up to four.
+// A row of the picture's bytes: the widest has a pixel for each step and one for the start, filled up to four. Fewer steps
+// are stretched to at most 1,024 pixels, which is less.
 pub fn row() -> [u8; ROW]
     ensures { λ r. ⌜ (horizonCeiling + 4) / 4 * 4 ≡ length r ⌝ }
 {

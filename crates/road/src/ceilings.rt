@@ -6,7 +6,7 @@ use super::Road;
 impl Road {
     pub const CELLS: u32 = 256;
 
-    pub const HORIZON: u32 = 4096;
+    pub const HORIZON: u32 = 1440;
 
     pub const DIVISOR: u32 = 4096;
 

@@ -15,6 +15,7 @@ use worked::lists;
 use worked::print;
 use worked::roads;
 use worked::roads::A;
+use worked::roads::WIDEST;
 
 // One forecast, behind its name, and what it left in the output.
 pub fn told(
@@ -76,7 +77,7 @@ const CASES: [Case; COUNT] = [
     Case(roads::C_1000, CELLS, ONE_100, EMPTY, 1, 3),
     Case(roads::C_201, CELLS, ONE_100, EMPTY, 1, 3),
     Case(A, NONE, ONE_100, EMPTY, 1, 3),
-    Case(A, CELLS, ONE_100, EMPTY, 4097, 3),
+    Case(A, CELLS, ONE_100, EMPTY, 1441, 3),
     Case(A, CELLS, few::TWO_100, EMPTY, 1, 3),
     Case(A, CELLS, ONE_100, NONE, 1, 3),
     Case(A, CELLS, ONE_100, EMPTY, 1, 2),
@@ -140,39 +141,55 @@ pub fn cases(page: &mut Page) {
     }
 }
 
-// A road, the density of all cells, of all upstream and of all downstream ends, how many cells, and how many steps.
-struct Edge(u8, u32, u32, u32, usize, usize);
+// A road, the density of all cells, of all upstream and of all downstream ends, how many cells and ends, and the steps.
+struct Edge(u8, u32, u32, u32, usize, usize, u32);
 
-const EDGE_COUNT: usize = 7;
+const EDGE_COUNT: usize = 13;
 
 const EDGES: [Edge; EDGE_COUNT] = [
-    Edge(A, 300, 1000, 0, 3, 0),
-    Edge(A, 1000, 1000, 0, 1, 4096),
-    Edge(A, 1000, 0, 0, 256, 4096),
-    Edge(A, 1000, 1000, 1000, 256, 4096),
-    Edge(roads::WIDEST, 1_000_000, 1_000_000, 0, 256, 4096),
-    Edge(A, 300, 1000, 0, 257, 1),
-    Edge(A, 300, 1000, 0, 1, 4097),
+    Edge(A, 300, 1000, 0, 3, 0, 0),
+    Edge(A, 0, 0, 0, 1, 1440, 1440),
+    Edge(A, 1000, 1000, 0, 1, 1440, 1440),
+    Edge(A, 1000, 0, 0, 256, 1440, 1440),
+    Edge(A, 1000, 1000, 1000, 256, 1440, 1440),
+    Edge(WIDEST, 1_000_000, 1_000_000, 0, 256, 1440, 1440),
+    Edge(WIDEST, 0, 1_000_000, 0, 1, 1440, 1440),
+    Edge(A, 300, 1000, 0, 257, 1, 1),
+    Edge(A, 0, 0, 0, 0, 1441, 1441),
+    Edge(A, 0, 0, 0, 1, 1441, 1441),
+    Edge(A, 0, 0, 0, 1, 1440, 1441),
+    Edge(A, 0, 0, 0, 1, 1441, 4096),
+    Edge(A, 0, 0, 0, 1, 1439, 1440),
 ];
 
-// A forecast of n cells of one density, with ends of one density each and all faces open, over t steps.
-fn long(page: &mut Page, line: usize, road: u8, cell: u32, up: u32, down: u32, n: usize, t: usize) {
+// A forecast of n cells of one density, with so many ends of one density each and all faces open, over t steps.
+fn long(
+    page: &mut Page,
+    line: usize,
+    road: u8,
+    cell: u32,
+    up: u32,
+    down: u32,
+    n: usize,
+    ends: usize,
+    t: u32,
+) {
     let cells = lists::cells(cell);
     let ups = lists::ends(up);
     let downs = lists::ends(down);
     let open = lists::caps(OPEN);
     let mut out = lists::cells(7);
     if n <= lists::CELLS {
-        if t <= lists::ENDS {
+        if ends <= lists::ENDS {
             let faces = n + 1;
             show(
                 page,
                 line,
                 roads::road(road),
                 &cells[..n],
-                &ups[..t],
-                &downs[..t],
-                t as u32,
+                &ups[..ends],
+                &downs[..ends],
+                t,
                 &open[..faces],
                 &mut out[..n],
             );
@@ -194,6 +211,7 @@ pub fn edges(page: &mut Page) {
             edge.3,
             edge.4,
             edge.5,
+            edge.6,
         );
         i += 1;
     }

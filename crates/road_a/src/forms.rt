@@ -3,7 +3,7 @@ use printing::page::Page;
 use printing::say;
 use worked::print;
 
-const FORMS: [u8; 2207] = *b"\
+const FORMS: [u8; 2416] = *b"\
 : entered %, left %
 , totals % %
 : moves %
@@ -36,7 +36,7 @@ p 6
 C 1000
 C 201
 no cells
-T 4097 with ends of 1
+T 1441 with ends of 1
 two upstream ends for T 1
 no downstream end for T 1
 output of 2 for 3 cells
@@ -45,24 +45,31 @@ cells 2 and 3 above J
 upstream above J at step 1
 downstream above J at step 0
 n 3, T 0
-n 1, T 4096
-n 256, T 4096, a jam that dissolves
-n 256, T 4096, a jam that stays
+n 1, T 1440, an empty road
+n 1, T 1440
+n 256, T 1440, a jam that dissolves
+n 256, T 1440, a jam that stays
 D and J at their ceilings
+D and J at their ceilings, one empty cell
 n 257
-T 4097
+no cells, T 1441
+T 1441
+T 1441 with ends of 1440
+T 4096 with ends of 1441
+T 1440 with ends of 1439
 settling one cell 2, ends 0, T 9
 settling one cell 1 of the road with D 4, ends 0, T 9
 settling one cell 1000, ends 0, T 3
-settling one cell 1000, ends 0, T 4096
+settling one cell 1000, ends 0, T 1440
 settling one cell 2, T 0
 settling C 201
-settling T 4097
+settling T 1441
+settling T 1441, output of 2 for 1 cell
 settling output of 2 for 1 cell
 settling cell 2 above J
 settling upstream above J, T 0
 settling downstream above J
-settling n 256, a jam that dissolves
+settling n 256, T 1440, a jam that dissolves
 settling n 257
 one cell 101, ends 0, totals 7 and 5
 total left that comes to the largest
@@ -129,9 +136,9 @@ pub const FORECASTS: usize = ROADS + 15;
 
 pub const EDGES: usize = FORECASTS + 17;
 
-pub const SETTLINGS: usize = EDGES + 7;
+pub const SETTLINGS: usize = EDGES + 13;
 
-pub const LONG_SETTLINGS: usize = SETTLINGS + 11;
+pub const LONG_SETTLINGS: usize = SETTLINGS + 12;
 
 pub const FULL: usize = LONG_SETTLINGS + 2;
 

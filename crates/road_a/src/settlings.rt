@@ -67,16 +67,17 @@ pub fn show(
 // A road, cells, the upstream and the downstream end, the most steps, and the places of the output.
 struct Case(u8, u8, u32, u32, u32, usize);
 
-const COUNT: usize = 11;
+const COUNT: usize = 12;
 
 const CASES: [Case; COUNT] = [
     Case(A, ONE_2, 0, 0, 9, 1),
     Case(roads::QUARTERS, few::ONE_1, 0, 0, 9, 1),
     Case(A, ONE_1000, 0, 0, 3, 1),
-    Case(A, ONE_1000, 0, 0, 4096, 1),
+    Case(A, ONE_1000, 0, 0, 1440, 1),
     Case(A, ONE_2, 0, 0, 0, 1),
     Case(roads::C_201, ONE_2, 0, 0, 9, 1),
-    Case(A, ONE_2, 0, 0, 4097, 1),
+    Case(A, ONE_2, 0, 0, 1441, 1),
+    Case(A, ONE_2, 0, 0, 1441, 2),
     Case(A, ONE_2, 0, 0, 9, 2),
     Case(A, few::FULL_ABOVE, 1001, 1001, 9, 2),
     Case(A, few::FULL_FULL, 1001, 1001, 0, 2),
@@ -156,6 +157,6 @@ fn long(page: &mut Page, line: usize, n: usize, t: u32) {
 
 // As many cells as a road can have, and one beyond.
 pub fn long_cases(page: &mut Page) {
-    long(page, forms::LONG_SETTLINGS, 256, 4096);
+    long(page, forms::LONG_SETTLINGS, 256, 1440);
     long(page, forms::LONG_SETTLINGS + 1, 257, 9);
 }

@@ -1,4 +1,5 @@
-// What the cases print with, besides their own words: refusals, the start of a list, the bits of a double.
+// What the cases print with, besides their own words: refusals, the start of a list and its last cell, the bits of a
+// double.
 use printing::lists;
 use printing::page::Page;
 use printing::say;
@@ -8,10 +9,11 @@ use road::Refusal;
 const MOST: usize = 4;
 
 // The words, one form a line, and the number of each line.
-const FORMS: [u8; 56] = *b"\
+const FORMS: [u8; 65] = *b"\
 : accepted
 : refused % at %
  .. of %
+, last %
 : not a number
 : 0x";
 
@@ -21,9 +23,11 @@ const REFUSED: usize = 1;
 
 const MORE: usize = 2;
 
-const NAN: usize = 3;
+const LAST: usize = 3;
 
-const BITS: usize = 4;
+const NAN: usize = 4;
+
+const BITS: usize = 5;
 
 fn words(page: &mut Page, line: usize, a: u64, b: u64) {
     say::form(page, &FORMS, line, a, b, 0, 0);
@@ -38,13 +42,19 @@ pub fn refusal(page: &mut Page, f: Refusal) {
     }
 }
 
-// The first cells of a list, and how many there are in all where there are more.
+// The last cell of a longer list.
+fn last(page: &mut Page, cell: u32) {
+    words(page, LAST, cell as u64, 0);
+}
+
+// The first cells of a list, and where there are more how many in all, and the last.
 pub fn cells(page: &mut Page, xs: &[u32]) {
     if xs.len() <= MOST {
         lists::densities(page, true, xs);
     } else {
         lists::densities(page, true, &xs[..MOST]);
         words(page, MORE, xs.len() as u64, 0);
+        last(page, xs[xs.len() - 1]);
     }
 }
 

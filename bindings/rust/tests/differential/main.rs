@@ -136,7 +136,7 @@ fn forecast(
 fn one_forecast(g: &mut Random, work: usize) -> Kind {
     let mut road = random::good_road(g);
     let n = random::size(g);
-    let longest = (work / n).clamp(1, 4096);
+    let longest = (work / n).clamp(1, 1440);
     let mut horizon = match g.below(6) {
         0 => g.from(0, 2),
         1 => longest as u32,
@@ -160,8 +160,8 @@ fn one_forecast(g: &mut Random, work: usize) -> Kind {
                 }
             }
             2 => {
-                horizon = g.of(&[4097, 4098, 5000, 1 << 31, u32::MAX]);
-                if horizon <= 5000 && g.one_in(2) {
+                horizon = g.of(&[1441, 1442, 4096, 1 << 31, u32::MAX]);
+                if horizon <= 4096 && g.one_in(2) {
                     random::resize(g, &mut up, horizon as usize);
                     random::resize(g, &mut down, horizon as usize);
                 }
@@ -205,7 +205,7 @@ fn forecasts() {
 
 #[test]
 fn long_forecasts() {
-    cases("forecast, long", 400, &FORECAST, &FORECAST_WORDS, |g| one_forecast(g, 256 * 4096));
+    cases("forecast, long", 400, &FORECAST, &FORECAST_WORDS, |g| one_forecast(g, 256 * 1440));
 }
 
 /// A short forecast without faults. Of its totals those that `full` names are about full, the others have room for its
@@ -365,7 +365,7 @@ fn keeps_a_sum(road: [u32; 5], cells: &[u32], up: u32, down: u32, caps: &[u32], 
 fn one_settle(g: &mut Random, work: usize) -> Kind {
     let mut road = random::good_road(g);
     let n = random::size(g);
-    let longest = (work / n).clamp(1, 4096);
+    let longest = (work / n).clamp(1, 1440);
     let mut horizon = match g.below(6) {
         0 => g.from(0, 2),
         1 => longest as u32,
@@ -386,7 +386,7 @@ fn one_settle(g: &mut Random, work: usize) -> Kind {
                     out = length;
                 }
             }
-            2 => horizon = g.of(&[4097, 4098, 5000, 1 << 31, u32::MAX]),
+            2 => horizon = g.of(&[1441, 1442, 4096, 1 << 31, u32::MAX]),
             3 => out = random::other_length(g, out),
             4 => random::damage_values(g, &good, &mut cells),
             5 => up = random::above(g, &good),
@@ -421,7 +421,7 @@ fn settling_runs() {
 
 #[test]
 fn long_settling_runs() {
-    cases("settle, long", 300, &SETTLE, &SETTLE_WORDS, |g| one_settle(g, 256 * 4096));
+    cases("settle, long", 300, &SETTLE, &SETTLE_WORDS, |g| one_settle(g, 256 * 1440));
 }
 
 // Level 2.
@@ -1007,11 +1007,11 @@ fn year_after_year_until_full() {
 
 const ROAD_A: [u32; 5] = [5, 4, 1, 1000, 200];
 
-/// The ceilings that the document names.
+/// The ceilings that document 01 names, but for the horizon's, which is document 02's.
 #[test]
 fn ceilings() {
     assert_eq!(Road::cells_ceiling(), 256);
-    assert_eq!(Road::horizon_ceiling(), 4096);
+    assert_eq!(Road::horizon_ceiling(), 1440);
     assert_eq!(Road::divisor_ceiling(), 4096);
     assert_eq!(Road::jam_ceiling(), 1_000_000);
     assert_eq!(Road::count_ceiling(), 40);
@@ -1167,7 +1167,7 @@ fn fixed_totals() {
         ([5, 4, 1, 1000, 1000], vec![101], vec![100], vec![0], 1, 1, (3, 0)),
         ([5, 4, 1, 1000, 201], vec![101], vec![100], vec![0], 1, 1, (4, 0)),
         (ROAD_A, vec![], vec![100], vec![0], 1, 0, (5, 0)),
-        (ROAD_A, vec![101], vec![100; 4097], vec![0; 4097], 4097, 1, (6, 0)),
+        (ROAD_A, vec![101], vec![100; 1441], vec![0; 1441], 1441, 1, (6, 0)),
         (ROAD_A, vec![101], vec![100, 100], vec![0], 1, 1, (7, 0)),
         (ROAD_A, vec![101], vec![100], vec![0], 1, 2, (8, 0)),
         (ROAD_A, vec![101, 1001], vec![100], vec![0], 1, 2, (9, 2)),
@@ -1273,6 +1273,47 @@ fn fixed_stillness() {
     for (road, up, start, down, caps, horizon, settled, steps, cells) in runs {
         let answer = settle(road, &start, up, down, horizon, &caps, start.len());
         assert_eq!(answer, Ok(Settled { cells, settled, steps }), "cells {start:?}, caps {caps:?}, horizon {horizon}");
+    }
+}
+
+/// The request on the longest run: 1,440 steps are accepted, here with the units entered and left and the first and the
+/// last cell, and 1,441 give 6, after 5 and before 7 and 8.
+#[test]
+fn fixed_horizons() {
+    let widest = [4096, 4096, 4096, 1_000_000, 500_000];
+    let longest = [
+        (ROAD_A, vec![0], 0, [0, 0], [0, 0]),
+        (ROAD_A, vec![1000], 1000, [229_602, 230_400], [202, 202]),
+        (ROAD_A, vec![1000; 256], 0, [0, 230_400], [0, 202]),
+        (widest, vec![1_000_000; 256], 1_000_000, [592_000_000, 720_000_000], [500_000, 500_000]),
+        (widest, vec![0], 1_000_000, [720_000_000, 719_500_000], [500_000, 500_000]),
+    ];
+    for (road, start, up, own, first_and_last) in longest {
+        let n = start.len();
+        let answer = forecast(road, &start, &[up; 1440], &[0; 1440], 1440, &open(n), [0, 0], n);
+        let found = answer.map(|done| (done.own, [done.cells[0], done.cells[n - 1]]));
+        assert_eq!(found, Ok((own, first_and_last)), "road {road:?}, cells {start:?}");
+    }
+    let refused = [
+        (1, 1441, 1441, (6, 0)),
+        (1, 1441, 1440, (6, 0)),
+        (1, 4096, 1441, (6, 0)),
+        (1, 4096, 4096, (6, 0)),
+        (1, 1440, 1439, (7, 0)),
+        (0, 1441, 1441, (5, 0)),
+    ];
+    for (n, horizon, ends, refusal) in refused {
+        let (cells, ends) = (vec![0; n], vec![0; ends]);
+        let answer = forecast(ROAD_A, &cells, &ends, &ends, horizon, &open(n), [0, 0], n);
+        assert_eq!(answer, Err(refusal), "horizon {horizon}, {} ends", ends.len());
+    }
+
+    let emptied = Settled { cells: vec![0], settled: true, steps: 9 };
+    assert_eq!(settle(ROAD_A, &[1000], 0, 0, 1440, &open(1), 1), Ok(emptied));
+    let of_256 = settle(ROAD_A, &[1000; 256], 0, 0, 1440, &open(256), 256).expect("accepted");
+    assert_eq!((of_256.settled, of_256.steps), (false, 1440));
+    for (horizon, out) in [(1441, 1), (1441, 2), (4096, 1)] {
+        assert_eq!(settle(ROAD_A, &[1000], 0, 0, horizon, &open(1), out), Err((6, 0)), "horizon {horizon}, out {out}");
     }
 }
 

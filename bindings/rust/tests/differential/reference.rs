@@ -48,7 +48,7 @@ fn row_5(cells: &[u32]) -> Option<Refused> {
 }
 
 fn row_6(horizon: u32) -> Option<Refused> {
-    (horizon > 4096).then_some((6, 0))
+    (horizon > 1440).then_some((6, 0))
 }
 
 fn row_7(lengths: [usize; 2], horizon: u32) -> Option<Refused> {

@@ -8,7 +8,7 @@ abbrev Inv-loop : tie.InvT-loop
 Inv-loop page₀ i₀ page i = Unit {0}
 
 abbrev μ-loop : tie.MeasureT-loop
-μ-loop page₀ i₀ page i = 7 - i
+μ-loop page₀ i₀ page i = 13 - i
 
 pub edges-spec : {M : Type 1} → statement M
 edges-spec =

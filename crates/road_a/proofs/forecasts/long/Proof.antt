@@ -25,6 +25,5 @@ long-spec =
     (tie.spec (λ c κs. search needs) (λ c κs. search needs) (λ c κs. search needs) (λ c κs. search needs)
     (λ c κs. search needs) (λ c. search needs) (λ c κs. search needs) (λ c. search needs)
     slice-aggregate-show (λ c. search needs) slice-aggregate-show-2 (λ c. search needs)
-    slice-aggregate-show-3 (λ c. search needs) (λ c. search needs) slice-aggregate-show-4
-    (λ c. search needs) slice-aggregate-show-5 (λ c κs. search needs) (λ c. search needs)
-    (λ c. search needs) (λ c. search needs))
+    slice-aggregate-show-3 (λ c. search needs) slice-aggregate-show-4 (λ c. search needs)
+    slice-aggregate-show-5 (λ c κs. search needs) (λ c. search needs) (λ c. search needs) (λ c. search needs))

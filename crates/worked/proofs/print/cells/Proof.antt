@@ -1,4 +1,4 @@
--- `print::cells` is safe: the start of a list lies within it.
+-- `print::cells` is safe: the start of a list and its last cell lie within it.
 use Rattle.printing.proofs.Prefix.{prefix-length}
 use borrow.Author.Needs.{needs}
 use Rattle.worked.proofs.print.cells.Statement.{statement}
@@ -11,4 +11,4 @@ pub cells-spec : {M : Type 1} → statement M
 cells-spec =
     tie.close
     (tie.spec (λ c κs. search needs) slice-aggregate-densities (λ c κs. search needs) (λ c κs. search needs)
-    (λ c. search needs) (λ c. search needs))
+    (λ c. search needs) (λ c. search needs) (λ c. search needs) (λ c κs. search needs) (λ c. search needs) (λ c. search needs))
