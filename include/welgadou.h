@@ -162,8 +162,8 @@
 extern "C" {
 #endif
 
-/* The version of this header: ten thousand a major, a hundred a minor version. 0.10.0 is 1000. */
-#define WELGADOU_VERSION 1000
+/* The version of this header: ten thousand a major, a hundred a minor version. 0.11.0 is 1100. */
+#define WELGADOU_VERSION 1100
 
 /* Returns: the version of the library that is linked, WELGADOU_VERSION where it is the one of this header. */
 uint32_t welgadou_version(void);

@@ -12,15 +12,15 @@ use lib.Ieee.{Float, fin, binary64, prec, ne, lt, ofInt, ofBits}
 use lib.Ieee.Fits.{add-fits}
 use Rattle.choice.specs.Choice.{pick, or}
 use Rattle.road.specs.Ceilings.{divisorCeiling}
-use Rattle.road.specs.Table.{row, judge}
-use Rattle.road.specs.Judgement.{Accepted, outside, roadRows}
+use Rattle.refusal.specs.Table.{check, judge}
+use Rattle.road.specs.Judgement.{Accepted, outside, roadChecks}
 use Rattle.road.specs.declared.Road.{Road}
-use Rattle.road.specs.declared.refusal.Refusal.{Refusal}
-use Rattle.road.proofs.Table.{_&_}
+use Rattle.refusal.specs.declared.Refusal.{Refusal}
+use Rattle.refusal.proofs.Table.{_&_}
 use Rattle.road.proofs.Acceptance.{accepted-by, road-passes}
 use Rattle.choice.proofs.Choice.{or-left, or-right, neither}
 use Rattle.road.proofs.Ranges.{from-low, to-high, inside}
-use Rattle.road.proofs.Calls.{Call, checked, refuses, accepts}
+use Rattle.refusal.proofs.Calls.{Call, checked, refuses, accepts}
 use Rattle.floats.specs.Worth.{Worth, FiniteUpTo, Passes}
 use Rattle.floats.proofs.Round.{ofInt-worth}
 use Rattle.floats.proofs.Row.{row-exact}
@@ -80,17 +80,17 @@ estimate-placed false false c e =
 
 module _ (r : Road) (mode : ℕ) (left own right : Float) where
   -- the candidate's table refuses nothing exactly of a checked input
-  pub candidate-call : Call (C.candidateRows r mode left own right) (C.CandidateChecked r mode left own right) (C.CandidatePlaced r left own right) (C.candidateRefusal r mode left own right)
+  pub candidate-call : Call (C.candidateChecks r mode left own right) (C.CandidateChecked r mode left own right) (C.CandidatePlaced r left own right) (C.candidateRefusal r mode left own right)
   unfolding C.candidateRefusal
   candidate-call =
       let a = C.badEstimate (r .jam) left in
       let b = C.badEstimate (r .jam) own in
       let c = C.badEstimate (r .jam) right in
       record {
-        is = refl;
+        comes-to = refl;
         distinct = tt;
         placed = λ at e. let (holds, same) = at 14 tt e in subst (EstimatePlaced a b c) same (estimate-placed a b c holds);
-        of = λ no.
+        clear-checked = λ no.
             let ok = accepted-by r (no 1) (no 2) (no 3) (no 4) in
             let rest = or-right a (or b c) (no 14) in
             record {
@@ -211,7 +211,7 @@ module _ (r : Road) (mode other : ℕ) (left own right : Float) (above : 7 < mod
 
   same-refusal : C.candidateRefusal r other left own right ≡ C.candidateRefusal r mode left own right
   unfolding C.candidateRefusal
-  same-refusal = ap (λ (b : Bool). judge (roadRows r ++ (row b 13 0 ∷ C.estimatesRow r left own right ∷ []))) (beyond other other-above ∙ sym (beyond mode above))
+  same-refusal = ap (λ (b : Bool). judge (roadChecks r ++ (check b 13 0 ∷ C.estimatesCheck r left own right ∷ []))) (beyond other other-above ∙ sym (beyond mode above))
     where
       beyond : (m : ℕ) → 7 < m → outside 1 7 m ≡ true
       beyond m h = rw (le-ltb m 1 (omega arith), lt-ltb 7 m h)

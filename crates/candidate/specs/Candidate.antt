@@ -1,16 +1,15 @@
--- Candidate prediction: one mode's row applied to three float estimates (document 01, "Seven modes", rows 13 and 14).
+-- Candidate prediction: one mode's row applied to three float estimates (document 01, "Seven modes", checks 13 and 14).
 use mathlib.Core.Path.{_≡_}
 use mathlib.Core.Bool.{Bool, true, false}
 use mathlib.Core.List.{List, [], _∷_, _++_}
 use Prim.Native.Nat.{ℕ, _≤_}
-use lib.Dec.{eqb}
 use lib.IntN.{ℤ, pos}
 use lib.Ieee.{Float, fin, binary64, add, mul, lt, ne, ofInt, ofBits}
 use Rattle.choice.specs.Choice.{pick, or}
-use Rattle.road.specs.Table.{Row, row, judge, refused, Judged}
-use Rattle.road.specs.Judgement.{roadRows, outside, Accepted}
+use Rattle.refusal.specs.Table.{Check, check, judge, refused, Judged, unlessRefused}
+use Rattle.road.specs.Judgement.{roadChecks, outside, Accepted}
 use Rattle.road.specs.declared.Road.{Road}
-use Rattle.road.specs.declared.refusal.Refusal.{Refusal}
+use Rattle.refusal.specs.declared.Refusal.{Refusal}
 use Rattle.floats.specs.Worth.{Worth, FiniteUpTo}
 use Rattle.rows.specs.Rows.{rowValue}
 use Rattle.rows.specs.Coefficients.{leftCoefficient, ownCoefficient, rightCoefficient, constantOf}
@@ -44,22 +43,22 @@ badEstimates j left own right = or (badEstimate j left) (or (badEstimate j own) 
 abbrev pub estimatePlace : ℕ → Float → Float → ℕ
 estimatePlace j left own = pick (badEstimate j left) 1 (pick (badEstimate j own) 2 3)
 
--- rows 13, a mode outside 1 to 7, and 14
-abbrev pub modeRow : ℕ → Row
-modeRow mode = row (outside 1 7 mode) 13 0
+-- checks 13, a mode outside 1 to 7, and 14
+abbrev pub modeCheck : ℕ → Check
+modeCheck mode = check (outside 1 7 mode) 13 0
 
-abbrev pub estimatesRow : Road → Float → Float → Float → Row
-estimatesRow r left own right = row (badEstimates (r .jam) left own right) 14 (estimatePlace (r .jam) left own)
+abbrev pub estimatesCheck : Road → Float → Float → Float → Check
+estimatesCheck r left own right = check (badEstimates (r .jam) left own right) 14 (estimatePlace (r .jam) left own)
 
-abbrev pub estimateRows : Road → ℕ → Float → Float → Float → List Row
-estimateRows r mode left own right = modeRow mode ∷ estimatesRow r left own right ∷ []
+abbrev pub estimateChecks : Road → ℕ → Float → Float → Float → List Check
+estimateChecks r mode left own right = modeCheck mode ∷ estimatesCheck r left own right ∷ []
 
 -- "candidate 1–4, 13, 14"
-abbrev pub candidateRows : Road → ℕ → Float → Float → Float → List Row
-candidateRows r mode left own right = roadRows r ++ estimateRows r mode left own right
+abbrev pub candidateChecks : Road → ℕ → Float → Float → Float → List Check
+candidateChecks r mode left own right = roadChecks r ++ estimateChecks r mode left own right
 
 unfoldable pub candidateRefusal : Road → ℕ → Float → Float → Float → Refusal
-candidateRefusal r mode left own right = judge (candidateRows r mode left own right)
+candidateRefusal r mode left own right = judge (candidateChecks r mode left own right)
 
 -- the numerator that the row predicts
 abbrev pub candidateNumerator : Road → ℕ → Float → Float → Float → Float
@@ -67,7 +66,7 @@ candidateNumerator r mode left own right = applied (rowFor r mode) left own righ
 
 unfoldable pub candidateAnswer : Road → ℕ → Float → Float → Float → CandidateAnswer
 candidateAnswer r mode left own right =
-    pick (eqb (candidateRefusal r mode left own right .number) 0)
+    unlessRefused (candidateRefusal r mode left own right)
     (Done (record { numerator = candidateNumerator r mode left own right }))
     (Refused (candidateRefusal r mode left own right))
 
@@ -85,10 +84,10 @@ unfoldable pub candidateMeaning : Road → ℕ → Float → Float → Float →
 candidateMeaning r mode left own right = record {
   number = candidateRefusal r mode left own right .number;
   place = candidateRefusal r mode left own right .place;
-  value = pick (eqb (candidateRefusal r mode left own right .number) 0) (candidateNumerator r mode left own right) (ofBits binary64 0);
+  value = unlessRefused (candidateRefusal r mode left own right) (candidateNumerator r mode left own right) (ofBits binary64 0);
 }
 
--- what an input that no row refuses is: each estimate a finite number from 0 to J
+-- what an input that no check refuses is: each estimate a finite number from 0 to J
 pub record CandidateChecked (r : Road) (mode : ℕ) (left own right : Float) : Type 0 where
   pub accepted : Accepted r
   pub mode-low : 1 ≤ mode
@@ -110,10 +109,10 @@ abbrev pub CandidatePlaced : Road → Float → Float → Float → Refusal → 
 CandidatePlaced r left own right f =
     f .number ≡ 14 → EstimatePlaced (badEstimate (r .jam) left) (badEstimate (r .jam) own) (badEstimate (r .jam) right) (f .place)
 
--- demand 1 of a refusal, of the candidate's rows
+-- demand 1 of a refusal, of the candidate's checks
 abbrev pub CandidateJudged : Road → ℕ → Float → Float → Float → Refusal → Type 0
 CandidateJudged r mode left own right f =
-    Judged (candidateRows r mode left own right) (CandidateChecked r mode left own right) (CandidatePlaced r left own right) f
+    Judged (candidateChecks r mode left own right) (CandidateChecked r mode left own right) (CandidatePlaced r left own right) f
 
 -- the float is exactly the whole numerator z
 pub record Whole (x : Float) (z : ℤ) : Type 0 where

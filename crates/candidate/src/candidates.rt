@@ -5,7 +5,7 @@ ghost use lib.Ieee.{binary64, ofInt};
 ghost use Rattle.choice.specs.Choice.{pick};
 ghost use Rattle.road.specs.Judgement.{Accepted, outside};
 ghost use Rattle.candidate.specs.Candidate.{rowFor, applied, badEstimate, candidateRefusal, Candidates};
-use road::Refusal;
+use refusal::Refusal;
 use road::Road;
 use rows::WholeRow;
 

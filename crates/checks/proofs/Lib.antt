@@ -1,4 +1,5 @@
--- The theorems of rows 5 to 11 and 20: what each says where it does not refuse, and the places that are reported.
+-- The theorems of checks 5 to 11 and 20: what each says where it does not refuse, and the places that are reported.
 pub mod First
-pub mod Rows
+pub mod Checks
 pub mod Places
+pub mod State

@@ -4,16 +4,16 @@ use mathlib.Core.Bool.{true}
 use mathlib.Core.List.{List}
 use Prim.Native.Nat.{ℕ, _+_}
 use Rattle.road.specs.declared.Road.{Road}
-use Rattle.road.specs.declared.refusal.Refusal.{Refusal}
+use Rattle.refusal.specs.declared.Refusal.{Refusal}
 use Rattle.checks.specs.Values.{firstAbove, anyAbove, FirstAbove}
 use Rattle.checks.specs.Places.{Placed}
 use Rattle.checks.proofs.First.{first-above}
 
--- a list's row that was returned: its condition holds, and its place is the one returned
+-- a list's check that was returned: its condition holds, and its place is the one returned
 listed : (j : ℕ) (xs : List ℕ) {q : ℕ} → (anyAbove j xs ≡ true) × (firstAbove j xs ≡ q) → FirstAbove j xs q
 listed j xs (holds, same) = rw same at (first-above j xs holds)
 
--- the places of a call with these rows, as they were returned: the cells are numbered from 1, the ends from 0
+-- the places of a call with these checks, as they were returned: the cells are numbered from 1, the ends from 0
 pub values-placed : (r : Road) (cells ups downs : List ℕ) (f : Refusal)
     → (f .number ≡ 9 → (anyAbove (r .jam) cells ≡ true) × (firstAbove (r .jam) cells + 1 ≡ f .place))
     → (f .number ≡ 10 → (anyAbove (r .jam) ups ≡ true) × (firstAbove (r .jam) ups ≡ f .place))

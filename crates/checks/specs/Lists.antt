@@ -1,4 +1,4 @@
--- What the rows "Lists" of the refusal table test, and the row of a cap list (document 02, E7).
+-- What the checks "Lists" of the refusal table test, and the check of a cap list (document 02, E7).
 use mathlib.Core.Bool.{Bool, not}
 use Prim.Native.Nat.{ℕ, _+_}
 use lib.Dec.{eqb, ltb}

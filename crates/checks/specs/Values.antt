@@ -1,4 +1,4 @@
--- What the rows "Values" of the refusal table test: a density above J, and the place of the first such.
+-- What the checks "Values" of the refusal table test: a density above J, and the place of the first such.
 use mathlib.Core.Path.{_≡_}
 use mathlib.Core.Bool.{Bool}
 use mathlib.Core.List.{List, [], _∷_}

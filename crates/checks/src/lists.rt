@@ -1,4 +1,4 @@
-// The rows "Lists": the numbers of cells and steps, and the lengths of the ends, of an output and of a cap list.
+// The checks "Lists": the numbers of cells and steps, and the lengths of the ends, of an output and of a cap list.
 ghost use mathlib.Core.Path.{_≡_};
 ghost use Rattle.checks.specs.Lists.{badCells, badHorizon, badEnds, badOutput, badCaps};
 use road::Road;

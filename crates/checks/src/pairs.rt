@@ -1,19 +1,19 @@
-// Rows 9 to 11 of the refusal table, for a call with one end pair.
+// Checks 9 to 11 of the refusal table, for a call with one end pair.
 ghost use mathlib.Core.Path.{_≡_};
 ghost use Prim.Native.Nat.{_≤_};
 ghost use lib.ListN.{length};
 ghost use Rattle.road.specs.Ceilings.{cellsCeiling};
-ghost use Rattle.road.specs.Table.{judgeBelow};
-ghost use Rattle.checks.specs.Rows.{pairRows};
+ghost use Rattle.refusal.specs.Table.{judgeBelow};
+ghost use Rattle.checks.specs.Checks.{pairChecks};
 use super::values::first_above;
 use super::values::is_above;
-use road::Refusal;
+use refusal::Refusal;
 use road::Road;
 
-// Internal: the three rows below a refusal by the rows above. There are few enough cells that a place fits its 32 bits.
+// Internal: the three checks below a refusal by the checks above. There are few enough cells that a place fits its 32 bits.
 pub fn or_pair(above: Refusal, road: Road, cells: &[u32], up: u32, down: u32) -> Refusal
     requires { ⌜ length (now cells) ≤ cellsCeiling ⌝ }
-    ensures { λ f. ⌜ f ≡ judgeBelow above (pairRows road (now (cells .entry)) up down) ⌝ }
+    ensures { λ f. ⌜ f ≡ judgeBelow above (pairChecks road (now (cells .entry)) up down) ⌝ }
 {
     let cell = first_above(road.jam, cells);
     let up_high = is_above(road.jam, up);

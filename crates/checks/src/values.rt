@@ -1,4 +1,4 @@
-// The rows "Values": the first density of a list that is above jam.
+// The checks "Values": the first density of a list that is above jam.
 ghost use mathlib.Core.Path.{_≡_};
 ghost use lib.Dec.{ltb};
 ghost use Rattle.checks.specs.Values.{Found};

@@ -1,33 +1,34 @@
 // The actions of a text, in a fixed order.
-use super::rankings;
-use super::stations;
-use arguments::options::Options;
+use cli_arguments::options::Options;
+use cli_predictions::candidates;
+use cli_predictions::counts;
+use cli_predictions::predictions;
+use cli_readings::fits;
+use cli_readings::states;
+use cli_request::codes;
+use cli_request::keys;
+use cli_request::keys::is_given;
+use cli_request::status;
+use cli_request::status::worst;
+use cli_runs::forecasts;
+use cli_runs::settlings;
+use cli_site::rankings;
+use cli_site::stations;
 use printing::page;
 use printing::page::Page;
-use readings::fits;
-use readings::states;
-use reports::candidates;
-use reports::counts;
-use reports::predictions;
-use request::keys;
-use request::keys::is_given;
-use request::status;
-use request::status::worst;
-use runs::forecasts;
-use runs::settlings;
 
 // One action of the text; the status.
 fn done(page: &mut Page, o: Options, text: &[u8], action: u8) -> u8 {
     match action {
-        keys::FORECAST => forecasts::act(page, o, text),
-        keys::SETTLE => settlings::act(page, o.lines, text),
-        keys::READ => states::act(page, o.lines, text),
-        keys::FIT => fits::act(page, o.lines, text),
-        keys::ROWS => predictions::act(page, o.lines, text),
-        keys::CANDIDATE => candidates::act(page, o.lines, text),
-        keys::COUNT => counts::act(page, o.lines, text),
-        keys::READLAST => states::act_on_last(page, o.lines, text),
-        keys::STATION => stations::act(page, o.lines, text),
+        codes::FORECAST => forecasts::act(page, o, text),
+        codes::SETTLE => settlings::act(page, o.lines, text),
+        codes::READ => states::act(page, o.lines, text),
+        codes::FIT => fits::act(page, o.lines, text),
+        codes::ROWS => predictions::act(page, o.lines, text),
+        codes::CANDIDATE => candidates::act(page, o.lines, text),
+        codes::COUNT => counts::act(page, o.lines, text),
+        codes::READLAST => states::act_on_last(page, o.lines, text),
+        codes::STATION => stations::act(page, o.lines, text),
         _ => rankings::act(page, o.lines, text),
     }
 }

@@ -1,24 +1,22 @@
 // The command line: reads a scenario, judges it, and then does what its keys ask. What it did is its status (status.rt).
 mod actions;
-mod rankings;
-mod stations;
 
-use arguments::options;
-use arguments::options::Options;
-use arguments::usage;
-use arguments::words;
-use intake::errors;
-use intake::input;
-use intake::needs;
+use cli_arguments::options;
+use cli_arguments::options::Options;
+use cli_arguments::usage;
+use cli_arguments::words;
+use cli_intake::errors;
+use cli_intake::input;
+use cli_intake::needs;
+use cli_request::buffers;
+use cli_request::status;
+use cli_request::status::worst;
 use printing::page;
 use printing::page::Page;
-use request::buffers;
-use request::status;
-use request::status::worst;
 
 // A good text whose actions have all that they need is acted on; anything else gets one message and no result.
 fn work(page: &mut Page, o: Options, text: &[u8]) -> u8 {
-    let verdict = scenario::judge(text);
+    let verdict = cli_scenario::judge(text);
     if verdict.what != 0 {
         errors::wrong_text(o.file, text, verdict);
         return status::TEXT;

@@ -4,11 +4,11 @@ use mathlib.Core.Bool.{true≢false}
 use Prim.Native.Nat.{ℕ, _≤_}
 use borrow.Author.Tests.{ltb-false, le-ltb}
 use Rattle.road.specs.Ceilings.{countCeiling}
-use Rattle.road.specs.declared.refusal.Refusal.{Refusal}
-use Rattle.road.proofs.Table.{_&_, no-place}
-use Rattle.road.proofs.Calls.{Call, refuses, accepts}
+use Rattle.refusal.specs.declared.Refusal.{Refusal}
+use Rattle.refusal.proofs.Table.{_&_, no-place}
+use Rattle.refusal.proofs.Calls.{Call, refuses, accepts}
 use Rattle.counting.specs.WordCount.{wordCount}
-use Rattle.counting.specs.Count.{countRows, countRefusal, countAnswer, countMeaning, meaning, CountsWords}
+use Rattle.counting.specs.Count.{countChecks, countRefusal, countAnswer, countMeaning, meaning, CountsWords}
 use Rattle.counting.specs.declared.counting.WordCount.{WordCount}
 use Rattle.counting.specs.declared.counting.CountAnswer.{CountAnswer}
 use Rattle.counting.specs.declared.counting.CountAnswer.the-variants.{Done, Refused}
@@ -20,13 +20,13 @@ same-words e = ap (λ (x : WordCount). x .words) (cc e)
 
 module _ (n : ℕ) where
   -- nothing is refused exactly up to the ceiling
-  pub count-call : Call (countRows n) (n ≤ countCeiling) (λ g. g .place ≡ 0) (countRefusal n)
+  pub count-call : Call (countChecks n) (n ≤ countCeiling) (λ g. g .place ≡ 0) (countRefusal n)
   unfolding countRefusal
   count-call = record {
-    is = refl;
+    comes-to = refl;
     distinct = tt;
-    placed = λ at. no-place (countRows n) tt;
-    of = λ no. ltb-false countCeiling n (no 15);
+    placed = λ at. no-place (countChecks n) tt;
+    clear-checked = λ no. ltb-false countCeiling n (no 15);
     passes = λ h. le-ltb countCeiling n h & tt;
   }
 

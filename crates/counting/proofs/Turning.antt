@@ -31,13 +31,13 @@ count-small n h = le-trans (longer n countCeiling 1 1 1 h) most
 
 -- the loop after k turns
 pub record Turning (n w l d k : ℕ) : Type 0 where
-  pub made : k ≤ n
+  pub inside : k ≤ n
   pub count : turned (n - k) w l d ≡ wordCount n
 
 module _ (n : ℕ) where
   pub begins : Turning n 1 1 1 0
   unfolding wordCount
-  begins = record { made = zero-le; count = rw sub-zero refl }
+  begins = record { inside = zero-le; count = rw sub-zero refl }
 
   module _ (w l d k : ℕ) (now : Turning n w l d k) where
     -- every sum of a turn is at most this one
@@ -48,7 +48,7 @@ module _ (n : ℕ) where
     unfolding turned
     turns h =
         let left : n - k ≡ suc (n - (k + 1)) = omega arith in
-        record { made = omega arith; count = rw left at (now .count) }
+        record { inside = omega arith; count = rw left at (now .count) }
 
     pub ends : n ≤ k → w + l + d ≡ wordCount n
     unfolding turned

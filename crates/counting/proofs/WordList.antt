@@ -6,7 +6,6 @@ use Prim.Native.Nat.{ℕ, zero, suc, _+_, _≤_, zero-le, suc-le-suc}
 use native.Mathlib.Nat.{suc-inj, le-of-suc-le-suc, not-suc-le-zero}
 use native.Mathlib.Numerals.{add-one}
 use native.Mathlib.Omega.{arith}
-use lib.ListN.{length}
 use Rattle.choice.specs.Choice.{pick}
 use Rattle.road.specs.Ceilings.{countCeiling}
 use Rattle.words.specs.Words.{legal}

@@ -1,12 +1,11 @@
--- The word count call: the number of legal words for n cells, up to its ceiling (document 01, "Seven modes", row 15).
+-- The word count call: the number of legal words for n cells, up to its ceiling (document 01, "Seven modes", check 15).
 use mathlib.Core.Path.{_≡_}
 use mathlib.Core.List.{List, [], _∷_}
 use Prim.Native.Nat.{ℕ, _≤_}
-use lib.Dec.{eqb, ltb}
-use Rattle.choice.specs.Choice.{pick}
+use lib.Dec.{ltb}
 use Rattle.road.specs.Ceilings.{countCeiling}
-use Rattle.road.specs.Table.{Row, row, judge, refused, Judged}
-use Rattle.road.specs.declared.refusal.Refusal.{Refusal}
+use Rattle.refusal.specs.Table.{Check, check, judge, refused, Judged, unlessRefused}
+use Rattle.refusal.specs.declared.Refusal.{Refusal}
 use Rattle.counting.specs.WordCount.{wordCount}
 use Rattle.counting.specs.LegalWordsCounted.{LegalWordsCounted}
 use Rattle.counting.specs.declared.counting.WordCount.{WordCount}
@@ -14,17 +13,17 @@ use Rattle.counting.specs.declared.counting.CountAnswer.{CountAnswer}
 use Rattle.counting.specs.declared.counting.CountAnswer.the-variants.{Done, Refused}
 
 -- 15: cells above its ceiling
-abbrev pub countRow : ℕ → Row
-countRow n = row (ltb countCeiling n) 15 0
+abbrev pub countCheck : ℕ → Check
+countCheck n = check (ltb countCeiling n) 15 0
 
-abbrev pub countRows : ℕ → List Row
-countRows n = countRow n ∷ []
+abbrev pub countChecks : ℕ → List Check
+countChecks n = countCheck n ∷ []
 
 unfoldable pub countRefusal : ℕ → Refusal
-countRefusal n = judge (countRows n)
+countRefusal n = judge (countChecks n)
 
 unfoldable pub countAnswer : ℕ → CountAnswer
-countAnswer n = pick (eqb (countRefusal n .number) 0) (Done (record { words = wordCount n })) (Refused (countRefusal n))
+countAnswer n = unlessRefused (countRefusal n) (Done (record { words = wordCount n })) (Refused (countRefusal n))
 
 -- the paper's numbers of an answer: number (0 when accepted), place, the count (0 when refused)
 pub record Meaning : Type 0 where
@@ -40,12 +39,12 @@ unfoldable pub countMeaning : ℕ → Meaning
 countMeaning n = record {
   number = countRefusal n .number;
   place = countRefusal n .place;
-  words = pick (eqb (countRefusal n .number) 0) (wordCount n) 0;
+  words = unlessRefused (countRefusal n) (wordCount n) 0;
 }
 
--- demand 1 of a refusal, of the one row: its place is 0, and none is refused exactly up to the ceiling
+-- demand 1 of a refusal, of the one check: its place is 0, and none is refused exactly up to the ceiling
 abbrev pub CountJudged : ℕ → Refusal → Type 0
-CountJudged n f = Judged (countRows n) (n ≤ countCeiling) (λ g. g .place ≡ 0) f
+CountJudged n f = Judged (countChecks n) (n ≤ countCeiling) (λ g. g .place ≡ 0) f
 
 -- what the call promises
 pub record CountsWords (n : ℕ) (a : CountAnswer) : Type 0 where

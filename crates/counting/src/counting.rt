@@ -4,7 +4,7 @@ ghost use Prim.Native.Nat.{_≤_};
 ghost use Rattle.road.specs.Ceilings.{countCeiling};
 ghost use Rattle.counting.specs.WordCount.{wordCount};
 ghost use Rattle.counting.specs.Count.{countRefusal, CountsWords};
-use road::Refusal;
+use refusal::Refusal;
 use road::Road;
 
 // A count of legal words.
@@ -18,7 +18,7 @@ pub enum CountAnswer {
     Refused(Refusal),
 }
 
-// Internal: row 15, the count's only one.
+// Internal: check 15, the count's only one.
 fn judged(cells: u32) -> Refusal
     ensures { λ f. ⌜ f ≡ countRefusal cells ⌝ }
 {

@@ -3,9 +3,8 @@ use mathlib.Core.Path.{_≡_, refl}
 use mathlib.Core.Bool.{Bool, true, false}
 use Prim.Native.Nat.{ℕ, zero, suc, _^_, _≤_}
 use native.Mathlib.Nat.{lt-irrefl}
-use lib.Dec.{T, le→leb, lt→ltb}
-use lib.IntN.{ℤ, pos, negsuc, natAbs}
-use lib.Ieee.{Float, fin, Format, binary32, binary64, prec, round, ofInt, ofBits, inFloat}
+use lib.IntN.{ℤ, pos, natAbs}
+use lib.Ieee.{Float, fin, Format, binary32, binary64, prec, round, ofInt, ofBits}
 use lib.Ieee.Back.{round-whole}
 use Rattle.floats.specs.Worth.{signed, Worth, exactly}
 use Rattle.floats.proofs.Signs.{natAbs-signed, Plain, Plainly, plainly, plain}
@@ -33,12 +32,6 @@ ofInt-worth f z = go (plain z)
   where
     go : {z : ℤ} → Plainly z → natAbs z ≤ 2 ^ prec f → Worth (ofInt f z) z
     go (plainly s a p) h = rw (ofInt-round f s a p) (rounded-worth (rounded s a) h)
-
--- the integers that a cast takes to a float
-pub in-float : (f : Format) (z : ℤ) → natAbs z ≤ 2 ^ prec f → T (inFloat f z)
-unfolding inFloat
-in-float f (pos n) h = le→leb n (2 ^ prec f) h
-in-float f (negsuc n) h = lt→ltb n (2 ^ prec f) h
 
 -- ---- the literal 0.0
 zero-is : (f : Format) → ofBits f 0 ≡ fin false 0 (pos 0)

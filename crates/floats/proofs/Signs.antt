@@ -2,10 +2,11 @@
 use mathlib.Core.Path.{_≡_, refl, sym, ap, _∙_}
 use mathlib.Core.Bool.{Bool, true, false, not, cond}
 use Prim.Native.Nat.{ℕ, zero, suc, _+_, _-_, _*_, _≤_, _<_}
-use native.Mathlib.Nat.{zero-mul, mul-zero, zero-lt-suc, mul-pos}
+use native.Mathlib.Nat.{zero-mul, mul-zero, zero-lt-suc, mul-pos, sub-add-cancel, le-of-lt, lt-of-not-le}
+use native.Mathlib.Decide.{decLe}
 use native.Mathlib.Omega.{arith}
 use lib.Dec.{ltb}
-use lib.IntN.{ℤ, pos, negsuc, negℤ, natAbs, subℕ, _+ℤ_, _*ℤ_, pos-ne-negsuc, negℤ-negℤ, negℤ-+ℤ, +ℤ-assoc, +ℤ-comm, +ℤ-idl, +ℤ-invl, +ℤ-invr}
+use lib.IntN.{ℤ, pos, negsuc, negℤ, natAbs, subℕ, _+ℤ_, _-ℤ_, _*ℤ_, pos-ne-negsuc, negℤ-negℤ, negℤ-+ℤ, +ℤ-assoc, +ℤ-comm, +ℤ-idl, +ℤ-invl, +ℤ-invr, +ℤ-negℤ-cancel}
 use lib.Ieee.{unlike}
 use Rattle.floats.specs.Worth.{signed}
 
@@ -103,3 +104,21 @@ pub data Plainly : ℤ → Type 0 where
 pub plain : (z : ℤ) → Plainly z
 plain (pos n) = plainly false n tt
 plain (negsuc n) = plainly true (suc n) (zero-lt-suc n)
+
+-- ---- differences of naturals
+-- one that is not cut off
+pub pos-minus : {m n : ℕ} → n ≤ m → pos m -ℤ pos n ≡ pos (m - n)
+pos-minus {m} {n} h = ap (λ x. pos x -ℤ pos n) (sym (sub-add-cancel h)) ∙ +ℤ-negℤ-cancel (pos (m - n)) (pos n)
+
+-- the size of one
+pub natAbs-minus : (m n : ℕ) → natAbs (pos m -ℤ pos n) ≡ (m - n) + (n - m)
+natAbs-minus m n = by-order (decLe n m)
+  where
+    turned : negℤ (pos n -ℤ pos m) ≡ pos m -ℤ pos n
+    turned = simp (negℤ-+ℤ, negℤ-negℤ) (+ℤ-comm (negℤ (pos n)) (pos m))
+
+    by-order : Dec (n ≤ m) → natAbs (pos m -ℤ pos n) ≡ (m - n) + (n - m)
+    by-order (yes h) = rw (pos-minus h) (omega arith)
+    by-order (no f) =
+        let h = le-of-lt (lt-of-not-le f) in
+        rw (← turned, natAbs-neg, pos-minus h) (omega arith)

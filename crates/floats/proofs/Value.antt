@@ -1,9 +1,9 @@
 -- A float is a whole number exactly when the library gives it that number's sign and size.
-use mathlib.Core.Path.{_≡_, refl, sym, ap, ap₂, _∙_}
+use mathlib.Core.Path.{_≡_, sym, ap, ap₂, _∙_}
 use mathlib.Core.Bool.{Bool}
 use Prim.Native.Nat.{ℕ, _*_}
-use native.Mathlib.Nat.{mul-one, mul-assoc, mul-right-comm, eq-of-mul-eq-mul-right}
-use lib.IntN.{ℤ, natAbs}
+use native.Mathlib.Nat.{mul-one, mul-assoc, mul-right-comm}
+use lib.IntN.{ℤ}
 use lib.Ieee.{Float, nan, inf, fin, up, down}
 use lib.Ieee.Exact.{HasValue}
 use lib.Ieee.Fits.{down-pos}
@@ -20,14 +20,8 @@ value→sized {x = nan} v = absurd v
 value→sized {x = inf t} v = absurd v
 value→sized {x = fin t m e} v = rw (← v .0) (sized (sym (mul-one (m * up e)) ∙ v .1))
 
-pub sized→value : {x : Float} {s : Bool} {a : ℕ} → Sized x s a → HasValue x s a 1
-sized→value (sized {m} {e} h) = (refl, mul-one (m * up e) ∙ h)
-
 pub sized→worth : {x : Float} {s : Bool} {a : ℕ} → Sized x s a → Worth x (signed s a)
 sized→worth (sized {s} {e} {a} h) = exactly (ap (signed s) h ∙ signed-times s a (down e))
-
-pub value→worth : {x : Float} (s : Bool) (a : ℕ) → HasValue x s a 1 → Worth x (signed s a)
-value→worth s a v = sized→worth (value→sized {a = a} v)
 
 -- a float that is the whole number z, with the sign and the size that make z
 pub data Valued (x : Float) : ℤ → Type 0 where
@@ -36,15 +30,6 @@ pub data Valued (x : Float) : ℤ → Type 0 where
 pub worth→value : {x : Float} {z : ℤ} → Worth x z → Valued x z
 worth→value (exactly {s} {m} {e} {z} h) =
     rw (← same-sign s (m * up e) (down e) z (down-pos e) h) (valued (sized (same-size s (m * up e) (down e) z h)))
-
--- a float is one whole number only
-pub worth-unique : {x : Float} {z w : ℤ} → Worth x z → Worth x w → z ≡ w
-worth-unique (exactly {s} {m} {e} {z} h) (exactly {z = w} k) =
-    let n = m * up e in
-    let d = down e in
-    sym (same-sign s n d z (down-pos e) h)
-    ∙ ap (signed s) (eq-of-mul-eq-mul-right d (down-pos e) (natAbs z) (natAbs w) (sym (same-size s n d z h) ∙ same-size s n d w k))
-    ∙ same-sign s n d w (down-pos e) k
 
 -- two sizes over the product of their denominators, wherever they stand
 pub over {ℓ} : {C : Type ℓ} (G : ℕ → ℕ → C) {m n : ℕ} (a c b d : ℕ) → m ≡ a * c → n ≡ b * d

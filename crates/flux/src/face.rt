@@ -1,8 +1,8 @@
-// One face as document 01 writes it: the flow numerator, the units moved, the letter.
+// One face as document 01 writes it: what its cells send and receive, the units moved, the letter.
 ghost use mathlib.Core.Path.{_≡_};
 ghost use Prim.Native.Nat.{_≤_, _<_, min, max};
 ghost use Rattle.road.specs.Judgement.{Accepted};
-ghost use Rattle.flux.specs.Face.{sending, receiving, numerator, units, letter};
+ghost use Rattle.flux.specs.Face.{sending, receiving, units, letter};
 use road::Road;
 
 // The letters' codes.
@@ -41,15 +41,6 @@ pub fn receiving(r: Road, b: u32) -> u32
     ensures { λ f. ⌜ f ≡ receiving r b ⌝ }
 {
     r.wave * (r.jam - greater(b, r.critical))
-}
-
-// Internal: the flow numerator of the face between densities a and b.
-pub fn numerator(r: Road, a: u32, b: u32) -> u32
-    requires { ⌜ Accepted r ⌝ }
-    requires { ⌜ b ≤ r .jam ⌝ }
-    ensures { λ f. ⌜ f ≡ numerator r a b ⌝ }
-{
-    smaller(sending(r, a), receiving(r, b))
 }
 
 // Internal: the units of a numerator, by division: to the nearest, an exact half up. The pace of a road has them without one.

@@ -1,4 +1,5 @@
-// One face of the triangular Godunov scheme: flow numerator, units moved, letter; and the units without a division.
+// One face of the triangular Godunov scheme: what its cells send and receive, units moved, letter; and the units without a
+// division.
 mod face;
 mod pace;
 
@@ -6,7 +7,6 @@ pub use face::D;
 pub use face::L;
 pub use face::W;
 pub use face::letter;
-pub use face::numerator;
 pub use face::receiving;
 pub use face::sending;
 pub use face::units;

@@ -1,16 +1,16 @@
 -- The answers and outputs, accepted and refused, and demand 3 from the equations.
 use mathlib.Core.Path.{_≡_, _∙_, refl, sym, ap, subst}
-use mathlib.Core.Bool.{Bool, true, false, true≢false}
+use mathlib.Core.Bool.{Bool, true, true≢false}
 use mathlib.Core.List.{List}
 use Prim.Native.Nat.{ℕ, _+_, _*_}
 use native.Mathlib.Omega.{arith}
 use lib.ListN.{length, replicate}
 use Rattle.choice.specs.Choice.{pick}
-use Rattle.road.specs.Table.{refused, passed}
+use Rattle.refusal.specs.Table.{refused, passed}
 use Rattle.road.specs.Ceilings.{jamCeiling}
 use Rattle.road.specs.declared.Road.{Road}
-use Rattle.road.specs.declared.refusal.Refusal.{Refusal}
-use Rattle.road.proofs.Calls.{refuses, accepts}
+use Rattle.refusal.specs.declared.Refusal.{Refusal}
+use Rattle.refusal.proofs.Calls.{refuses, accepts}
 use Rattle.scheme.specs.Settling.{after, settles, settleSteps, settleCells}
 use Rattle.scheme.specs.ByFaces.{RunByFaces}
 use Rattle.scheme.specs.Calls.{Ran, SettledTo}
@@ -24,7 +24,7 @@ use Rattle.forecast.specs.declared.forecasting.ForecastAnswer.{ForecastA
 use Rattle.forecast.specs.declared.forecasting.ForecastAnswer.the-variants as F
 use Rattle.forecast.specs.declared.settling.SettleAnswer.{SettleAnswer}
 use Rattle.forecast.specs.declared.settling.SettleAnswer.the-variants as S
-use Rattle.forecast.specs.Forecast.{InputChecked, ownOf, increased, carriedOn, totalRow, Fits, forecastRefusal, forecastAnswer, forecastCells, forecastMeaning, meaning, Demand3, Forecasts}
+use Rattle.forecast.specs.Forecast.{InputChecked, ownOf, increased, carriedOn, totalCheck, Fits, forecastRefusal, forecastAnswer, forecastCells, forecastMeaning, meaning, Demand3, Forecasts}
 use Rattle.forecast.specs.Settle.{settleRefusal, SettleChecked, settleAnswer, settleOutput, settleMeaning, meaning as settle-meaning, fromZero, Settlement, Settles}
 use Rattle.forecast.proofs.Checked.{fits-pass, forecast-call, total-decides, settle-call, full-checked}
 
@@ -75,10 +75,10 @@ module _ (r : Road) (caps cells ups downs : List ℕ) (t : ℕ) (out : List ℕ)
       sums i = record { entered = ran .entered i; left = ran .left i }
 
       -- once the run is made 19 decides, of its own sums
-      decided : {passes : Bool} → passes ≡ totalRow totals own .condition → forecastRefusal r caps cells ups downs t totals (length out) ≡ pick passes (refused 19 0) passed
-      decided q = total-decides r caps cells ups downs t (length out) totals c (q ∙ ap (λ (o : Totals). totalRow totals o .condition) sums)
+      decided : {passes : Bool} → passes ≡ totalCheck totals own .condition → forecastRefusal r caps cells ups downs t totals (length out) ≡ pick passes (refused 19 0) passed
+      decided q = total-decides r caps cells ups downs t (length out) totals c (q ∙ ap (λ (o : Totals). totalCheck totals o .condition) sums)
 
-      pub total-refused : {passes : Bool} → passes ≡ totalRow totals own .condition → passes ≡ true → Forecasts r caps cells ups downs t totals out out (F.Refused (refused 19 0))
+      pub total-refused : {passes : Bool} → passes ≡ totalCheck totals own .condition → passes ≡ true → Forecasts r caps cells ups downs t totals out out (F.Refused (refused 19 0))
       total-refused q holds = forecast-refused (refused 19 0) (rw holds at (sym (decided q))) (λ z. absurd (omega arith))
 
       -- accepted: the run's sums and cells, and the totals with the sums in them

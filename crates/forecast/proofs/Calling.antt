@@ -33,7 +33,7 @@ module _ (r : Road) (p : Pace) (made : p ≡ paceOf r) where
     ready : {up down : ℕ} → Accepted r → length caps ≡ length cells + 1 → 0 < length cells → Below (r .jam) cells → up ≤ r .jam → down ≤ r .jam → Ready p caps xs up down
     ready ok caps-long some below up-high down-high = record {
       accepted = rw road-of ok;
-      made = made ∙ ap paceOf (sym road-of);
+      pace-of-road = made ∙ ap paceOf (sym road-of);
       caps-long = rw copied caps-long;
       some = rw copied some;
       below = rw (road-of, copied) below;

@@ -7,8 +7,8 @@ use native.Mathlib.Omega.{arith}
 use lib.Dec.{eqb}
 use lib.ListN.{length}
 use borrow.Author.Tests.{eqb-true}
-use Rattle.road.specs.declared.refusal.Refusal.{Refusal}
-use Rattle.road.proofs.Calls as Calls
+use Rattle.refusal.specs.declared.Refusal.{Refusal}
+use Rattle.refusal.proofs.Calls as Calls
 use Rattle.scheme.specs.Sums.{sum}
 use Rattle.scheme.specs.Rounded.{roundRun}
 use Rattle.scheme.proofs.Promises.{round-balance}

@@ -9,7 +9,7 @@ use lib.ListN.{length}
 use Rattle.road.specs.Ceilings.{cellsCeiling, jamCeiling}
 use Rattle.road.specs.Judgement.{Accepted}
 use Rattle.road.specs.declared.Road.{Road}
-use Rattle.road.proofs.Calls.{accepts-checked}
+use Rattle.refusal.proofs.Calls.{accepts-checked}
 use Rattle.scheme.specs.Sums.{sum, Below}
 use Rattle.scheme.specs.Rounded.{entered, left}
 use Rattle.scheme.specs.Settling.{settles, settleSteps, settleCells}
@@ -140,11 +140,11 @@ module _ (r : Road) (n steps : ℕ) (s : Site) (c : SettleCall) (f : Feeds r n s
     },
   )
 
-made : (r : Road) (n steps : ℕ) (s : Site) (c : AnyCall) → Feeds r n s → Small steps s → Passes r n c → steps + forecastSteps (c ∷ []) ≤ lifetime → Made r n steps s c
-made r n steps s (forecast c) f small p within =
+call-made : (r : Road) (n steps : ℕ) (s : Site) (c : AnyCall) → Feeds r n s → Small steps s → Passes r n c → steps + forecastSteps (c ∷ []) ≤ lifetime → Made r n steps s c
+call-made r n steps s (forecast c) f small p within =
     subst (λ (q : Road). Feeds q n s → ForecastPasses q n c → Made q n steps s (forecast c)) (p .same-road)
     (λ f p. forecast-made n steps s c f small p (omega (arith, within))) f p
-made r n steps s (settle c) f small p within = settle-made r n steps s c f small p
+call-made r n steps s (settle c) f small p within = settle-made r n steps s c f small p
 
 -- a call's own steps and those of the rest
 steps-of : (c : AnyCall) (cs : List AnyCall) → forecastSteps (c ∷ cs) ≡ forecastSteps (c ∷ []) + forecastSteps cs
@@ -156,7 +156,7 @@ unfolding lastCells enteredInAll leftInAll
 chain r n steps s [] f small ps within = record { done = tt; within = tt; balanced = refl }
 chain r n steps s (c ∷ cs) f small (p, ps) within =
     let split = steps-of c cs in
-    let (is-done, one) = made r n steps s c f small p (omega arith) in
+    let (is-done, one) = call-made r n steps s c f small p (omega arith) in
     let rest = chain r n (steps + forecastSteps (c ∷ [])) (siteAfter r s c) cs (one .feeds) (one .small) ps (omega arith) in
     record {
       done = (is-done, rest .done);

@@ -5,4 +5,3 @@ pub mod Copied
 pub mod Calling
 pub mod Chain
 pub mod ForEver
-pub mod NoSteps

@@ -1,4 +1,5 @@
--- Forecasts and settling runs in a chain, each fed the last one's cells: the promise about the years that nobody watches.
+-- Forecasts and settling runs in a chain, each fed the last one's cells: the promise about the years that nobody watches. A forecast's part in it is `afterCall` of `Chain`,
+-- told again call by call.
 use mathlib.Core.Path.{_≡_}
 use mathlib.Core.List.{List, [], _∷_}
 use Prim.Native.Nat.{ℕ, _+_, _≤_}

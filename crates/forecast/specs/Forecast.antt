@@ -1,17 +1,17 @@
--- The forecast: its rows of the refusal table, its answer, its output, the totals since commissioning, and demand 3.
+-- The forecast: its checks of the refusal table, its answer, its output, the totals since commissioning, and demand 3.
 use mathlib.Core.Path.{_≡_}
 use mathlib.Core.Bool.{Bool}
 use mathlib.Core.List.{List, [], _∷_, _++_}
 use Prim.Native.Nat.{ℕ, _+_, _-_, _*_, _^_, _≤_}
-use lib.Dec.{eqb, ltb}
+use lib.Dec.{ltb}
 use lib.ListN.{length}
-use Rattle.choice.specs.Choice.{pick, or}
-use Rattle.road.specs.Table.{Row, row, judge, refused, Judged}
+use Rattle.choice.specs.Choice.{or}
+use Rattle.refusal.specs.Table.{Check, check, judge, refused, Judged, unlessRefused}
 use Rattle.road.specs.Ceilings.{cellsCeiling, horizonCeiling}
-use Rattle.road.specs.Judgement.{roadRows, Accepted}
+use Rattle.road.specs.Judgement.{roadChecks, Accepted}
 use Rattle.road.specs.declared.Road.{Road}
-use Rattle.road.specs.declared.refusal.Refusal.{Refusal}
-use Rattle.checks.specs.Rows.{cellsRow, horizonRow, endsRow, outputRow, capsRow, valueRows}
+use Rattle.refusal.specs.declared.Refusal.{Refusal}
+use Rattle.checks.specs.Checks.{cellsCheck, horizonCheck, endsCheck, outputCheck, capsCheck, valueChecks}
 use Rattle.checks.specs.Places.{Placed}
 use Rattle.scheme.specs.Sums.{sum, distance, times, Below}
 use Rattle.scheme.specs.Rounded.{roundRun, entered, left}
@@ -22,23 +22,23 @@ use Rattle.forecast.specs.declared.forecasting.Record.{Record}
 use Rattle.forecast.specs.declared.forecasting.ForecastAnswer.{ForecastAnswer}
 use Rattle.forecast.specs.declared.forecasting.ForecastAnswer.the-variants.{Done, Refused}
 
--- rows 5 to 8 and 20, over the numbers of caps, of cells, of upstream and downstream ends, the horizon, and the output's length: 20 "after 8 and before 9" (document 02, E7)
-abbrev pub listRows : ℕ → ℕ → ℕ → ℕ → ℕ → ℕ → List Row
-listRows caps cells ups downs t out = cellsRow cells ∷ horizonRow t ∷ endsRow t ups downs ∷ outputRow cells out ∷ capsRow cells caps ∷ []
+-- checks 5 to 8 and 20, over the numbers of caps, of cells, of upstream and downstream ends, the horizon, and the output's length: 20 "after 8 and before 9" (document 02, E7)
+abbrev pub listChecks : ℕ → ℕ → ℕ → ℕ → ℕ → ℕ → List Check
+listChecks caps cells ups downs t out = cellsCheck cells ∷ horizonCheck t ∷ endsCheck t ups downs ∷ outputCheck cells out ∷ capsCheck cells caps ∷ []
 
--- rows 1 to 8 and 20
-abbrev pub shapeRows : Road → ℕ → ℕ → ℕ → ℕ → ℕ → ℕ → List Row
-shapeRows r caps cells ups downs t out = roadRows r ++ listRows caps cells ups downs t out
+-- checks 1 to 8 and 20
+abbrev pub shapeChecks : Road → ℕ → ℕ → ℕ → ℕ → ℕ → ℕ → List Check
+shapeChecks r caps cells ups downs t out = roadChecks r ++ listChecks caps cells ups downs t out
 
 unfoldable pub shapeRefusal : Road → ℕ → ℕ → ℕ → ℕ → ℕ → ℕ → Refusal
-shapeRefusal r caps cells ups downs t out = judge (shapeRows r caps cells ups downs t out)
+shapeRefusal r caps cells ups downs t out = judge (shapeChecks r caps cells ups downs t out)
 
 -- "forecast 1–11", with 20 before 9
-abbrev pub inputRows : Road → List ℕ → List ℕ → List ℕ → List ℕ → ℕ → ℕ → List Row
-inputRows r caps cells ups downs t out = shapeRows r (length caps) (length cells) (length ups) (length downs) t out ++ valueRows r cells ups downs
+abbrev pub inputChecks : Road → List ℕ → List ℕ → List ℕ → List ℕ → ℕ → ℕ → List Check
+inputChecks r caps cells ups downs t out = shapeChecks r (length caps) (length cells) (length ups) (length downs) t out ++ valueChecks r cells ups downs
 
 unfoldable pub inputRefusal : Road → List ℕ → List ℕ → List ℕ → List ℕ → ℕ → ℕ → Refusal
-inputRefusal r caps cells ups downs t out = judge (inputRows r caps cells ups downs t out)
+inputRefusal r caps cells ups downs t out = judge (inputChecks r caps cells ups downs t out)
 
 -- "the call's own entered and left" (document 02, E4)
 abbrev pub ownOf : Road → List ℕ → List ℕ → List ℕ → List ℕ → Totals
@@ -56,18 +56,18 @@ abbrev pub passesLargest : ℕ → ℕ → Bool
 passesLargest so-far own = ltb largest (so-far + own)
 
 -- 19, of either total
-abbrev pub totalRow : Totals → Totals → Row
-totalRow so-far own = row (or (passesLargest (so-far .entered) (own .entered)) (passesLargest (so-far .left) (own .left))) 19 0
+abbrev pub totalCheck : Totals → Totals → Check
+totalCheck so-far own = check (or (passesLargest (so-far .entered) (own .entered)) (passesLargest (so-far .left) (own .left))) 19 0
 
-abbrev pub totalRows : Road → List ℕ → List ℕ → List ℕ → List ℕ → Totals → List Row
-totalRows r caps cells ups downs totals = totalRow totals (ownOf r caps cells ups downs) ∷ []
+abbrev pub totalChecks : Road → List ℕ → List ℕ → List ℕ → List ℕ → Totals → List Check
+totalChecks r caps cells ups downs totals = totalCheck totals (ownOf r caps cells ups downs) ∷ []
 
 -- 1 to 8, 20, 9 to 11, and 19 "checked last": the call's order of checks
-abbrev pub forecastRows : Road → List ℕ → List ℕ → List ℕ → List ℕ → ℕ → Totals → ℕ → List Row
-forecastRows r caps cells ups downs t totals out = inputRows r caps cells ups downs t out ++ totalRows r caps cells ups downs totals
+abbrev pub forecastChecks : Road → List ℕ → List ℕ → List ℕ → List ℕ → ℕ → Totals → ℕ → List Check
+forecastChecks r caps cells ups downs t totals out = inputChecks r caps cells ups downs t out ++ totalChecks r caps cells ups downs totals
 
 unfoldable pub forecastRefusal : Road → List ℕ → List ℕ → List ℕ → List ℕ → ℕ → Totals → ℕ → Refusal
-forecastRefusal r caps cells ups downs t totals out = judge (forecastRows r caps cells ups downs t totals out)
+forecastRefusal r caps cells ups downs t totals out = judge (forecastChecks r caps cells ups downs t totals out)
 
 -- what an accepted forecast hands back: the units of its own steps, and the totals increased by them
 abbrev pub carriedOn : Totals → Totals → Record
@@ -79,14 +79,14 @@ recordOf r caps cells ups downs totals = carriedOn totals (ownOf r caps cells up
 -- the answer: Done with that record, or the refusal
 unfoldable pub forecastAnswer : Road → List ℕ → List ℕ → List ℕ → List ℕ → ℕ → Totals → ℕ → ForecastAnswer
 forecastAnswer r caps cells ups downs t totals out =
-    pick (eqb (forecastRefusal r caps cells ups downs t totals out .number) 0)
+    unlessRefused (forecastRefusal r caps cells ups downs t totals out)
     (Done (recordOf r caps cells ups downs totals))
     (Refused (forecastRefusal r caps cells ups downs t totals out))
 
 -- the output: the cells after the steps of the end lists, T of them, or its former contents
 unfoldable pub forecastCells : Road → List ℕ → List ℕ → List ℕ → List ℕ → ℕ → Totals → List ℕ → List ℕ
 forecastCells r caps cells ups downs t totals out =
-    pick (eqb (forecastRefusal r caps cells ups downs t totals (length out) .number) 0) (roundRun r caps ups downs cells) out
+    unlessRefused (forecastRefusal r caps cells ups downs t totals (length out)) (roundRun r caps ups downs cells) out
 
 -- the paper's numbers of an answer: number (0 when accepted), place, its own entered and left, both totals; refused, 0 stands for what is not given
 pub record Meaning : Type 0 where
@@ -113,13 +113,13 @@ unfoldable pub forecastMeaning : Road → List ℕ → List ℕ → List ℕ →
 forecastMeaning r caps cells ups downs t totals out = record {
   number = forecastRefusal r caps cells ups downs t totals out .number;
   place = forecastRefusal r caps cells ups downs t totals out .place;
-  entered = pick (eqb (forecastRefusal r caps cells ups downs t totals out .number) 0) (entered r caps ups downs cells) 0;
-  left = pick (eqb (forecastRefusal r caps cells ups downs t totals out .number) 0) (left r caps ups downs cells) 0;
-  total-entered = pick (eqb (forecastRefusal r caps cells ups downs t totals out .number) 0) (totals .entered + entered r caps ups downs cells) 0;
-  total-left = pick (eqb (forecastRefusal r caps cells ups downs t totals out .number) 0) (totals .left + left r caps ups downs cells) 0;
+  entered = unlessRefused (forecastRefusal r caps cells ups downs t totals out) (entered r caps ups downs cells) 0;
+  left = unlessRefused (forecastRefusal r caps cells ups downs t totals out) (left r caps ups downs cells) 0;
+  total-entered = unlessRefused (forecastRefusal r caps cells ups downs t totals out) (totals .entered + entered r caps ups downs cells) 0;
+  total-left = unlessRefused (forecastRefusal r caps cells ups downs t totals out) (totals .left + left r caps ups downs cells) 0;
 }
 
--- what an input is that the rows before 19 let through
+-- what an input is that the checks before 19 let through
 pub record InputChecked (r : Road) (caps cells ups downs : List ℕ) (t out : ℕ) : Type 0 where
   pub accepted : Accepted r
   pub cells-low : 1 ≤ length cells
@@ -138,15 +138,15 @@ pub record Fits (totals own : Totals) : Type 0 where
   pub entered-fits : totals .entered + own .entered ≤ largest
   pub left-fits : totals .left + own .left ≤ largest
 
--- what an input that no row refuses is
+-- what an input that no check refuses is
 pub record Checked (r : Road) (caps cells ups downs : List ℕ) (t : ℕ) (totals : Totals) (out : ℕ) : Type 0 where
   pub input : InputChecked r caps cells ups downs t out
   pub fits : Fits totals (ownOf r caps cells ups downs)
 
--- demand 1 of a refusal, of the forecast's rows
+-- demand 1 of a refusal, of the forecast's checks
 abbrev pub ForecastJudged : Road → List ℕ → List ℕ → List ℕ → List ℕ → ℕ → Totals → ℕ → Refusal → Type 0
 ForecastJudged r caps cells ups downs t totals out f =
-    Judged (forecastRows r caps cells ups downs t totals out) (Checked r caps cells ups downs t totals out) (Placed r cells ups downs) f
+    Judged (forecastChecks r caps cells ups downs t totals out) (Checked r caps cells ups downs t totals out) (Placed r cells ups downs) f
 
 -- demand 3 of the commission, of what the output holds at exit with the answer's entered and left, on n cells and T steps; "the distance limit covers closed lanes too" (document 02, E7)
 pub record Demand3 (r : Road) (caps cells ups downs : List ℕ) (t : ℕ) (next : List ℕ) (in-sum out-sum : ℕ) : Type 0 where

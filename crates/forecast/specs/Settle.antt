@@ -1,17 +1,15 @@
--- The settling run: its rows of the refusal table, its answer and its output, and the full forecast that it equals.
+-- The settling run: its checks of the refusal table, its answer and its output, and the full forecast that it equals.
 use mathlib.Core.Path.{_≡_}
 use mathlib.Core.Bool.{Bool, false}
 use mathlib.Core.List.{List, [], _∷_, _++_}
 use Prim.Native.Nat.{ℕ, _+_, _≤_}
-use lib.Dec.{eqb}
 use lib.ListN.{length, replicate}
-use Rattle.choice.specs.Choice.{pick}
-use Rattle.road.specs.Table.{Row, judge, refused, Judged}
+use Rattle.refusal.specs.Table.{Check, judge, refused, Judged, unlessRefused}
 use Rattle.road.specs.Ceilings.{cellsCeiling, horizonCeiling}
-use Rattle.road.specs.Judgement.{roadRows, Accepted}
+use Rattle.road.specs.Judgement.{roadChecks, Accepted}
 use Rattle.road.specs.declared.Road.{Road}
-use Rattle.road.specs.declared.refusal.Refusal.{Refusal}
-use Rattle.checks.specs.Rows.{cellsRow, horizonRow, outputRow, capsRow, pairRows}
+use Rattle.refusal.specs.declared.Refusal.{Refusal}
+use Rattle.checks.specs.Checks.{cellsCheck, horizonCheck, outputCheck, capsCheck, pairChecks}
 use Rattle.checks.specs.Places.{Placed}
 use Rattle.scheme.specs.Sums.{Below}
 use Rattle.scheme.specs.Rounded.{entered, left}
@@ -25,35 +23,35 @@ use Rattle.forecast.specs.declared.settling.SettleAnswer.{SettleAnswer}
 use Rattle.forecast.specs.declared.settling.SettleAnswer.the-variants.{Done, Refused}
 use Rattle.forecast.specs.Chain.{Call, Site, answerTo, outputOf}
 
--- rows 5, 6, 8 and 20, over the numbers of caps and of cells, the horizon and the output's length
-abbrev pub settleListRows : ℕ → ℕ → ℕ → ℕ → List Row
-settleListRows caps cells t out = cellsRow cells ∷ horizonRow t ∷ outputRow cells out ∷ capsRow cells caps ∷ []
+-- checks 5, 6, 8 and 20, over the numbers of caps and of cells, the horizon and the output's length
+abbrev pub settleListChecks : ℕ → ℕ → ℕ → ℕ → List Check
+settleListChecks caps cells t out = cellsCheck cells ∷ horizonCheck t ∷ outputCheck cells out ∷ capsCheck cells caps ∷ []
 
--- rows 1 to 6, 8 and 20
-abbrev pub settleShapeRows : Road → ℕ → ℕ → ℕ → ℕ → List Row
-settleShapeRows r caps cells t out = roadRows r ++ settleListRows caps cells t out
+-- checks 1 to 6, 8 and 20
+abbrev pub settleShapeChecks : Road → ℕ → ℕ → ℕ → ℕ → List Check
+settleShapeChecks r caps cells t out = roadChecks r ++ settleListChecks caps cells t out
 
 unfoldable pub settleShapeRefusal : Road → ℕ → ℕ → ℕ → ℕ → Refusal
-settleShapeRefusal r caps cells t out = judge (settleShapeRows r caps cells t out)
+settleShapeRefusal r caps cells t out = judge (settleShapeChecks r caps cells t out)
 
 -- "settling 1–6 and 8–11", with 20 "after 8 and before 9" (document 02, E7)
-abbrev pub settleRows : Road → List ℕ → List ℕ → ℕ → ℕ → ℕ → ℕ → List Row
-settleRows r caps cells up down t out = settleShapeRows r (length caps) (length cells) t out ++ pairRows r cells up down
+abbrev pub settleChecks : Road → List ℕ → List ℕ → ℕ → ℕ → ℕ → ℕ → List Check
+settleChecks r caps cells up down t out = settleShapeChecks r (length caps) (length cells) t out ++ pairChecks r cells up down
 
 unfoldable pub settleRefusal : Road → List ℕ → List ℕ → ℕ → ℕ → ℕ → ℕ → Refusal
-settleRefusal r caps cells up down t out = judge (settleRows r caps cells up down t out)
+settleRefusal r caps cells up down t out = judge (settleChecks r caps cells up down t out)
 
 -- the answer: settled or unsettled with the steps made, or the refusal
 unfoldable pub settleAnswer : Road → List ℕ → List ℕ → ℕ → ℕ → ℕ → ℕ → SettleAnswer
 settleAnswer r caps cells up down t out =
-    pick (eqb (settleRefusal r caps cells up down t out .number) 0)
+    unlessRefused (settleRefusal r caps cells up down t out)
     (Done (record { settled = settles r caps up down t cells; steps = settleSteps r caps up down t cells }))
     (Refused (settleRefusal r caps cells up down t out))
 
 -- the output: the state after those steps, or its former contents
 unfoldable pub settleOutput : Road → List ℕ → List ℕ → ℕ → ℕ → ℕ → List ℕ → List ℕ
 settleOutput r caps cells up down t out =
-    pick (eqb (settleRefusal r caps cells up down t (length out) .number) 0) (settleCells r caps up down t cells) out
+    unlessRefused (settleRefusal r caps cells up down t (length out)) (settleCells r caps up down t cells) out
 
 -- the paper's numbers of an answer: number (0 when accepted), place, settled or not, steps
 pub record Meaning : Type 0 where
@@ -71,11 +69,11 @@ unfoldable pub settleMeaning : Road → List ℕ → List ℕ → ℕ → ℕ �
 settleMeaning r caps cells up down t out = record {
   number = settleRefusal r caps cells up down t out .number;
   place = settleRefusal r caps cells up down t out .place;
-  settled = pick (eqb (settleRefusal r caps cells up down t out .number) 0) (settles r caps up down t cells) false;
-  steps = pick (eqb (settleRefusal r caps cells up down t out .number) 0) (settleSteps r caps up down t cells) 0;
+  settled = unlessRefused (settleRefusal r caps cells up down t out) (settles r caps up down t cells) false;
+  steps = unlessRefused (settleRefusal r caps cells up down t out) (settleSteps r caps up down t cells) 0;
 }
 
--- what an input that no row refuses is
+-- what an input that no check refuses is
 pub record SettleChecked (r : Road) (caps cells : List ℕ) (up down t out : ℕ) : Type 0 where
   pub accepted : Accepted r
   pub cells-low : 1 ≤ length cells
@@ -87,10 +85,10 @@ pub record SettleChecked (r : Road) (caps cells : List ℕ) (up down t out : ℕ
   pub up-below : up ≤ r .jam
   pub down-below : down ≤ r .jam
 
--- demand 1 of a refusal, of the settling run's rows; the one end pair stands at place 0
+-- demand 1 of a refusal, of the settling run's checks; the one end pair stands at place 0
 abbrev pub SettleJudged : Road → List ℕ → List ℕ → ℕ → ℕ → ℕ → ℕ → Refusal → Type 0
 SettleJudged r caps cells up down t out f =
-    Judged (settleRows r caps cells up down t out) (SettleChecked r caps cells up down t out) (Placed r cells (up ∷ []) (down ∷ [])) f
+    Judged (settleChecks r caps cells up down t out) (SettleChecked r caps cells up down t out) (Placed r cells (up ∷ []) (down ∷ [])) f
 
 -- k steps of one end pair, told face by face: from the cells to the state handed back, with the units over face 0 and face n
 abbrev pub PairByFaces : Road → List ℕ → ℕ → ℕ → ℕ → List ℕ → List ℕ → Type 0

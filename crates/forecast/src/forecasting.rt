@@ -6,7 +6,7 @@ ghost use Rattle.forecast.specs.Forecast.{shapeRefusal, inputRefusal, pa
 use super::copying::copy;
 use choice::either;
 use flux::Pace;
-use road::Refusal;
+use refusal::Refusal;
 use road::Road;
 use scheme::Totals;
 
@@ -28,7 +28,7 @@ pub enum ForecastAnswer {
     Refused(Refusal),
 }
 
-// Internal: rows 1 to 8 and 20, of the road and of the lists' lengths.
+// Internal: checks 1 to 8 and 20, of the road and of the lists' lengths.
 fn judged_shape(
     road: Road,
     caps: usize,
@@ -53,7 +53,7 @@ fn judged_shape(
         .or_if(bad_caps, 20, 0)
 }
 
-// Internal: rows 1 to 8, 20 and 9 to 11, all that can be judged before the run. The values are judged only once the lists
+// Internal: checks 1 to 8, 20 and 9 to 11, all that can be judged before the run. The values are judged only once the lists
 // are known to be short, so that a place always fits its 32 bits.
 fn judged(
     road: Road,
@@ -123,7 +123,7 @@ fn ran(
     scheme::run(Pace::of(road), caps, list, upstream, downstream)
 }
 
-// Internal: the forecast where a total may pass the largest. Its own units are known after the run alone, and row 19 leaves
+// Internal: the forecast where a total may pass the largest. Its own units are known after the run alone, and check 19 leaves
 // the output as it was: the run is made in a working list.
 fn ran_aside(
     road: Road,
@@ -170,7 +170,7 @@ pub fn forecast(
     if refusal.number != 0 {
         return ForecastAnswer::Refused(refusal);
     }
-    // No face moves more than the ceiling of jam in a step: where both totals have room for that, row 19 cannot hold.
+    // No face moves more than the ceiling of jam in a step: where both totals have room for that, check 19 cannot hold.
     let most = horizon as u64 * Road::JAM as u64;
     let entered_may = would_pass(totals.entered, most);
     let left_may = would_pass(totals.left, most);

@@ -3,7 +3,7 @@ ghost use mathlib.Core.Path.{_≡_};
 ghost use Rattle.forecast.specs.Settle.{settleShapeRefusal, settleRefusal, Settles};
 use super::copying::copy;
 use flux::Pace;
-use road::Refusal;
+use refusal::Refusal;
 use road::Road;
 use scheme::Settled;
 
@@ -13,7 +13,7 @@ pub enum SettleAnswer {
     Refused(Refusal),
 }
 
-// Internal: rows 1 to 6, 8 and 20, of the road and of the lists' lengths.
+// Internal: checks 1 to 6, 8 and 20, of the road and of the lists' lengths.
 fn judged_shape(road: Road, caps: usize, cells: usize, horizon: u32, out: usize) -> Refusal
     ensures { λ f. ⌜ f ≡ settleShapeRefusal road caps cells horizon out ⌝ }
 {

@@ -1,27 +1,21 @@
--- The fit test's judgement and its answers: which inputs no row refuses, what is reported of them, and what of the others.
+-- The fit test's judgement and its answers: which inputs no check refuses, what is reported of them, and what of the others.
 use mathlib.Core.Path.{_≡_, _∙_, refl, sym, ap, subst}
 use mathlib.Core.Bool.{true, false, true≢false}
-use mathlib.Core.List.{List, [], _∷_}
-use Prim.Native.Nat.{ℕ, _+_, _≤_}
+use mathlib.Core.List.{List, []}
+use Prim.Native.Nat.{ℕ, _+_}
 use lib.ListN.{length}
-use Rattle.road.specs.Ceilings.{cellsCeiling}
 use Rattle.road.specs.declared.Road.{Road}
-use Rattle.road.specs.declared.refusal.Refusal.{Refusal}
-use Rattle.road.proofs.Table.{_&_, none-holds}
-use Rattle.road.proofs.Acceptance.{accepted-by, road-passes}
-use Rattle.road.proofs.Parts.{part-stands}
-use Rattle.road.proofs.Calls.{Call, accepts-checked, refuses, accepts}
-use Rattle.checks.proofs.First.{all-below}
-use Rattle.checks.proofs.Rows.{cells-low, cells-high, cells-pass}
+use Rattle.refusal.specs.declared.Refusal.{Refusal}
+use Rattle.refusal.proofs.Calls.{Call, accepts-checked, refuses, accepts}
+use Rattle.checks.proofs.State.{state-checked}
 use Rattle.scheme.specs.Word.{wordOf}
-use Rattle.words.specs.Judging.{pairWordRows}
-use Rattle.modes.specs.Judging.{fitShapeRows, fitRows, fitRefusal}
+use Rattle.modes.specs.Judging.{fitChecks, fitRefusal}
 use Rattle.words.specs.Places.{PairWordPlaced}
-use Rattle.modes.specs.Fit.{firstMisfit, allHold, misfitFace, fitAnswer, meaning, fitMeaning, fitShapeRefusal, FitChecked, Compared, FitState, Fits, AnswersFit}
+use Rattle.modes.specs.Fit.{firstMisfit, allHold, misfitFace, fitAnswer, meaning, fitMeaning, FitChecked, Compared, FitState, Fits, AnswersFit}
 use Rattle.modes.specs.declared.fitting.FitResult.{FitResult}
 use Rattle.modes.specs.declared.fitting.FitAnswer.{FitAnswer}
 use Rattle.modes.specs.declared.fitting.FitAnswer.the-variants.{Done, Refused}
-use Rattle.words.proofs.WordRow.{word-long, word-legal, pair-word-passes, pair-word-placed}
+use Rattle.words.proofs.WordCheck.{word-long, word-legal, state-word-passes, pair-word-placed}
 use Rattle.modes.proofs.Misfits.{own-long, same-word, other-word}
 use Rattle.modes.proofs.Fitness.{fit-state}
 
@@ -31,35 +25,19 @@ same-result e = cc
 
 module _ (r : Road) (cells : List ℕ) (up down : ℕ) (word : List ℕ) where
   -- the fit test's table refuses nothing exactly of a checked input
-  pub fit-call : Call (fitRows r cells up down word) (FitChecked r cells up down word) (PairWordPlaced r cells up down word) (fitRefusal r cells up down word)
+  pub fit-call : Call (fitChecks r cells up down word) (FitChecked r cells up down word) (PairWordPlaced r cells up down word) (fitRefusal r cells up down word)
   unfolding fitRefusal
   fit-call = record {
-    is = refl;
+    comes-to = refl;
     distinct = tt;
     placed = λ at. pair-word-placed r cells up down word _ (at 9 tt) (at 10 tt) (at 11 tt) (at 12 tt);
-    of = λ no. record {
-      accepted = accepted-by r (no 1) (no 2) (no 3) (no 4);
-      cells-low = cells-low (length cells) (no 5);
-      cells-high = cells-high (length cells) (no 5);
-      cells-below = all-below (r .jam) cells (no 9);
-      up-below = all-below (r .jam) (up ∷ []) (no 10) 0;
-      down-below = all-below (r .jam) (down ∷ []) (no 11) 0;
+    clear-checked = λ no. record {
+      state = state-checked r cells up down (no 1) (no 2) (no 3) (no 4) (no 5) (no 9) (no 10) (no 11);
       word-long = word-long (length cells) word (no 12);
       word-legal = word-legal (length cells) word (no 12);
     };
-    passes = λ c. road-passes r (c .accepted)
-        (cells-pass (length cells) (c .cells-low) (c .cells-high)
-        & pair-word-passes r cells up down word (c .cells-below) (c .up-below) (c .down-below) (c .word-long) (c .word-legal));
+    passes = λ c. state-word-passes r cells up down word (c .state) (c .word-long) (c .word-legal) [] tt;
   }
-
-  -- a refusal of the shape is the fit test's, and otherwise the cells are few
-  pub shape-stands : (f : Refusal) → f ≡ fitShapeRefusal r (length cells) → (f .number ≡ 0 → ⊥) → f ≡ fitRefusal r cells up down word
-  unfolding fitShapeRefusal fitRefusal
-  shape-stands = part-stands (fitShapeRows r (length cells)) (pairWordRows r cells up down word)
-
-  pub shape-short : fitShapeRefusal r (length cells) .number ≡ 0 → length cells ≤ cellsCeiling
-  unfolding fitShapeRefusal
-  shape-short e = cells-high (length cells) (none-holds (fitShapeRows r (length cells)) tt e 5)
 
   -- the first misfit as it is reported: every face holds, or one does not
   module _ (k : ℕ) (found : k ≡ firstMisfit (wordOf r up down cells) word) where
@@ -97,7 +75,7 @@ module _ (r : Road) (cells : List ℕ) (up down : ℕ) (word : List ℕ) where
         answer = rw (k .yes) (λ i. Done (record { holds = c .holds i; face = c .face i }));
         means = rw (k .yes) (λ i. record { number = sym (k .nothing) i .number; place = sym (k .nothing) i .place; holds = c .holds i; face = c .face i });
         judged = k .judged;
-        state = λ g q. subst (FitState r cells up down word) (same-result q) (fit-state r cells up down word (k .checked .accepted) (k .checked .word-long) f c);
+        state = λ g q. subst (FitState r cells up down word) (same-result q) (fit-state r cells up down word (k .checked .state .accepted) (k .checked .word-long) f c);
       }
 
   -- of a checked input whose every face holds, the test is made and says so

@@ -13,7 +13,6 @@ use Rattle.flux.proofs.Letters.{one-letter}
 use Rattle.scheme.specs.Word.{wordOf}
 use Rattle.scheme.proofs.Faces.{word-letter}
 use Rattle.scheme.proofs.Lists.{same-lists, lists-same}
-use Rattle.words.specs.Words.{legal}
 use Rattle.modes.specs.Fit.{firstMisfit, allHold, misfitFace, Compared, LetteredWord, LowestMisfit, FitState}
 use Rattle.modes.specs.Reading.{OwnWord}
 use Rattle.modes.specs.declared.fitting.FitResult.{FitResult}

@@ -7,8 +7,8 @@ use native.Mathlib.Omega.{arith}
 use lib.ListN.{length}
 use Rattle.road.specs.Ceilings.{cellsCeiling}
 use Rattle.road.specs.declared.Road.{Road}
-use Rattle.road.specs.declared.refusal.Refusal.{Refusal}
-use Rattle.road.proofs.Calls as Calls
+use Rattle.refusal.specs.declared.Refusal.{Refusal}
+use Rattle.refusal.proofs.Calls as Calls
 use Rattle.scheme.specs.Word.{wordOf}
 use Rattle.scheme.proofs.Faces.{word-length}
 use Rattle.modes.specs.Modes.{modesOf}
@@ -59,7 +59,7 @@ module _ (r : Road) (cells : List ℕ) (up down : ℕ) (letters modes : List ℕ
 
         -- what the tally asks
         pub few-modes : length ms ≤ cellsCeiling
-        few-modes = let n = ap length modes-are ∙ state-modes-length r up down cells in let h = checked .cells-high in omega arith
+        few-modes = let n = ap length modes-are ∙ state-modes-length r up down cells in let h = checked .state .cells-high in omega arith
 
         pub done : (counts : List ℕ) (queued : ℕ) → counts ≡ countsOf ms → queued ≡ queuedOf (r .critical) cells
             → Reads r cells up down letters word modes ms (reading Done (record { modes = counts; queued = queued }))

@@ -8,7 +8,7 @@ use lib.ListN.{length}
 use Rattle.road.specs.Ceilings.{cellsCeiling}
 use Rattle.road.specs.Judgement.{Accepted}
 use Rattle.road.specs.declared.Road.{Road}
-use Rattle.road.proofs.Calls.{accepts-checked}
+use Rattle.refusal.proofs.Calls.{accepts-checked}
 use Rattle.words.specs.Words.{legal}
 use Rattle.modes.specs.ReadOff.{upstreamOf, downstreamOf, cellsOf}
 use Rattle.modes.specs.Reading.{readAnswer, ReadChecked}
@@ -25,14 +25,16 @@ module _ (r : Road) (ok : Accepted r) (word : List ℕ) (allowed : legal word �
       let o = occurs r ok word allowed (omega arith) in
       let n = o .cells in
       record {
-        accepted = ok;
-        cells-low = omega arith;
-        cells-high = omega arith;
+        state = record {
+          accepted = ok;
+          cells-low = omega arith;
+          cells-high = omega arith;
+          cells-below = o .below;
+          up-below = o .upstream;
+          down-below = o .downstream;
+        };
         letters-long = sym (o .cells);
         modes-long = omega arith;
-        cells-below = o .below;
-        up-below = o .upstream;
-        down-below = o .downstream;
       }
 
   -- nothing of it is refused, so the reading is made and its letters are the state's word

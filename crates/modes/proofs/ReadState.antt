@@ -19,12 +19,7 @@ use Rattle.modes.proofs.FitAnswers.{answers-fit}
 fit-checked : {r : Road} {cells : List ℕ} {up down letters modes : ℕ} {word : List ℕ}
     → ReadChecked r cells up down letters modes → OwnWord r cells up down word → FitChecked r cells up down word
 fit-checked c own = record {
-  accepted = c .accepted;
-  cells-low = c .cells-low;
-  cells-high = c .cells-high;
-  cells-below = c .cells-below;
-  up-below = c .up-below;
-  down-below = c .down-below;
+  state = c .state;
   word-long = own .long;
   word-legal = own .allowed;
 }
@@ -33,7 +28,7 @@ module _ (r : Road) (cells : List ℕ) (up down letters modes : ℕ) (checked : 
   -- the state's own word, its modes and their counts
   own-state : ReadState r cells up down (wordOf r up down cells) (modesOf (wordOf r up down cells)) (countsFor r cells (modesOf (wordOf r up down cells)))
   own-state =
-      let ok = checked .accepted in
+      let ok = checked .state .accepted in
       let own = own-word r cells up down ok in
       record {
         lettered = word-lettered r cells up down ok;

@@ -7,17 +7,16 @@ use Prim.Native.Nat.{ℕ, suc, _+_, _≤_, _<_}
 use lib.Dec.{eqb}
 use lib.ListN.{length, getD}
 use Rattle.choice.specs.Choice.{pick}
-use Rattle.road.specs.Ceilings.{cellsCeiling}
-use Rattle.road.specs.Table.{judge, refused, Judged}
-use Rattle.road.specs.Judgement.{Accepted}
+use Rattle.refusal.specs.Table.{refused, Judged, unlessRefused}
 use Rattle.road.specs.declared.Road.{Road}
-use Rattle.road.specs.declared.refusal.Refusal.{Refusal}
+use Rattle.refusal.specs.declared.Refusal.{Refusal}
+use Rattle.checks.specs.State.{StateChecked}
 use Rattle.flux.specs.Letters.{Lettered}
 use Rattle.scheme.specs.Advance.{padded}
-use Rattle.scheme.specs.Sums.{sameList, Below}
+use Rattle.scheme.specs.Sums.{sameList}
 use Rattle.scheme.specs.Word.{wordOf}
 use Rattle.words.specs.Words.{legal}
-use Rattle.modes.specs.Judging.{fitShapeRows, fitRows, fitRefusal}
+use Rattle.modes.specs.Judging.{fitChecks, fitRefusal}
 use Rattle.words.specs.Places.{PairWordPlaced}
 use Rattle.modes.specs.declared.fitting.FitResult.{FitResult}
 use Rattle.modes.specs.declared.fitting.FitAnswer.{FitAnswer}
@@ -39,7 +38,7 @@ misfitFace r cells up down word = pick (allHold r cells up down word) 0 (firstMi
 
 unfoldable pub fitAnswer : Road → List ℕ → ℕ → ℕ → List ℕ → FitAnswer
 fitAnswer r cells up down word =
-    pick (eqb (fitRefusal r cells up down word .number) 0)
+    unlessRefused (fitRefusal r cells up down word)
     (Done (record { holds = allHold r cells up down word; face = misfitFace r cells up down word }))
     (Refused (fitRefusal r cells up down word))
 
@@ -58,28 +57,19 @@ unfoldable pub fitMeaning : Road → List ℕ → ℕ → ℕ → List ℕ → M
 fitMeaning r cells up down word = record {
   number = fitRefusal r cells up down word .number;
   place = fitRefusal r cells up down word .place;
-  holds = pick (eqb (fitRefusal r cells up down word .number) 0) (allHold r cells up down word) false;
-  face = pick (eqb (fitRefusal r cells up down word .number) 0) (misfitFace r cells up down word) 0;
+  holds = unlessRefused (fitRefusal r cells up down word) (allHold r cells up down word) false;
+  face = unlessRefused (fitRefusal r cells up down word) (misfitFace r cells up down word) 0;
 }
 
--- what the rows 1 to 5 come to
-unfoldable pub fitShapeRefusal : Road → ℕ → Refusal
-fitShapeRefusal r n = judge (fitShapeRows r n)
-
--- what an input that no row refuses is
+-- what an input that no check refuses is
 pub record FitChecked (r : Road) (cells : List ℕ) (up down : ℕ) (word : List ℕ) : Type 0 where
-  pub accepted : Accepted r
-  pub cells-low : 1 ≤ length cells
-  pub cells-high : length cells ≤ cellsCeiling
-  pub cells-below : Below (r .jam) cells
-  pub up-below : up ≤ r .jam
-  pub down-below : down ≤ r .jam
+  pub state : StateChecked r cells up down
   pub word-long : length word ≡ length cells + 1
   pub word-legal : legal word ≡ true
 
--- demand 1 of a refusal, of the fit test's rows
+-- demand 1 of a refusal, of the fit test's checks
 abbrev pub FitJudged : Road → List ℕ → ℕ → ℕ → List ℕ → Refusal → Type 0
-FitJudged r cells up down word f = Judged (fitRows r cells up down word) (FitChecked r cells up down word) (PairWordPlaced r cells up down word) f
+FitJudged r cells up down word f = Judged (fitChecks r cells up down word) (FitChecked r cells up down word) (PairWordPlaced r cells up down word) f
 
 -- what the comparison of the faces reports
 pub record Compared (r : Road) (cells : List ℕ) (up down : ℕ) (word : List ℕ) (f : FitResult) : Type 0 where

@@ -6,19 +6,18 @@ use Prim.Native.Nat.{ℕ, _+_, _≤_, _<_}
 use lib.Dec.{eqb, ltb}
 use lib.ListN.{length, getD}
 use Rattle.choice.specs.Choice.{pick}
-use Rattle.road.specs.Table.{judge, refused, Judged}
-use Rattle.road.specs.Ceilings.{cellsCeiling}
-use Rattle.road.specs.Judgement.{Accepted}
+use Rattle.refusal.specs.Table.{refused, Judged, unlessRefused}
 use Rattle.road.specs.declared.Road.{Road}
-use Rattle.road.specs.declared.refusal.Refusal.{Refusal}
+use Rattle.refusal.specs.declared.Refusal.{Refusal}
 use Rattle.checks.specs.Places.{Placed}
+use Rattle.checks.specs.State.{StateChecked}
 use Rattle.flux.specs.Letters.{PublishedFlow}
 use Rattle.scheme.specs.Advance.{padded}
-use Rattle.scheme.specs.Sums.{sum, Below}
+use Rattle.scheme.specs.Sums.{sum}
 use Rattle.scheme.specs.Word.{wordOf}
 use Rattle.words.specs.Words.{legal}
 use Rattle.modes.specs.Modes.{modesOf}
-use Rattle.modes.specs.Judging.{readShapeRows, readRows, readRefusal}
+use Rattle.modes.specs.Judging.{readChecks, readRefusal}
 use Rattle.modes.specs.Fit.{allHold, LetteredWord, Fits, AnswersFit}
 use Rattle.modes.specs.declared.fitting.FitAnswer.{FitAnswer}
 use Rattle.modes.specs.declared.reading.ReadAnswer.{ReadAnswer}
@@ -52,30 +51,21 @@ countsFor r cells modes = record { modes = countsOf modes; queued = queuedOf (r 
 abbrev pub noCounts : Counts
 noCounts = record { modes = 0 ∷ 0 ∷ 0 ∷ 0 ∷ 0 ∷ 0 ∷ 0 ∷ []; queued = 0 }
 
--- what rows 1 to 5 and 8 come to
-unfoldable pub readShapeRefusal : Road → ℕ → ℕ → ℕ → Refusal
-readShapeRefusal r n letters modes = judge (readShapeRows r n letters modes)
-
--- what an input that no row refuses is
+-- what an input that no check refuses is
 pub record ReadChecked (r : Road) (cells : List ℕ) (up down letters modes : ℕ) : Type 0 where
-  pub accepted : Accepted r
-  pub cells-low : 1 ≤ length cells
-  pub cells-high : length cells ≤ cellsCeiling
+  pub state : StateChecked r cells up down
   pub letters-long : letters ≡ length cells + 1
   pub modes-long : modes ≡ length cells
-  pub cells-below : Below (r .jam) cells
-  pub up-below : up ≤ r .jam
-  pub down-below : down ≤ r .jam
 
--- demand 1 of a refusal, of the reading's rows
+-- demand 1 of a refusal, of the reading's checks
 abbrev pub ReadJudged : Road → List ℕ → ℕ → ℕ → ℕ → ℕ → Refusal → Type 0
 ReadJudged r cells up down letters modes f =
-    Judged (readRows r cells up down letters modes) (ReadChecked r cells up down letters modes) (Placed r cells (up ∷ []) (down ∷ [])) f
+    Judged (readChecks r cells up down letters modes) (ReadChecked r cells up down letters modes) (Placed r cells (up ∷ []) (down ∷ [])) f
 
 -- what the reading answers: the counts beside Done, or the refusal beside all counts 0
 unfoldable pub readAnswer : Road → List ℕ → ℕ → ℕ → ℕ → ℕ → StateReading
 readAnswer r cells up down letters modes =
-    pick (eqb (readRefusal r cells up down letters modes .number) 0)
+    unlessRefused (readRefusal r cells up down letters modes)
     (record {
       answer = Done;
       counts = countsFor r cells (modesOf (wordOf r up down cells));
@@ -85,11 +75,11 @@ readAnswer r cells up down letters modes =
 -- the letters and the modes written, or the former contents
 unfoldable pub readLetters : Road → List ℕ → ℕ → ℕ → List ℕ → List ℕ → List ℕ
 readLetters r cells up down letters modes =
-    pick (eqb (readRefusal r cells up down (length letters) (length modes) .number) 0) (wordOf r up down cells) letters
+    unlessRefused (readRefusal r cells up down (length letters) (length modes)) (wordOf r up down cells) letters
 
 unfoldable pub readModes : Road → List ℕ → ℕ → ℕ → List ℕ → List ℕ → List ℕ
 readModes r cells up down letters modes =
-    pick (eqb (readRefusal r cells up down (length letters) (length modes) .number) 0) (modesOf (wordOf r up down cells)) modes
+    unlessRefused (readRefusal r cells up down (length letters) (length modes)) (modesOf (wordOf r up down cells)) modes
 
 -- the paper's numbers of an answer: number (0 when accepted) and place
 abbrev pub readNumber : ReadAnswer → ℕ

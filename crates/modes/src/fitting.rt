@@ -2,8 +2,8 @@
 ghost use mathlib.Core.Path.{_≡_};
 ghost use Rattle.scheme.specs.Word.{wordOf};
 ghost use Rattle.modes.specs.Judging.{fitRefusal};
-ghost use Rattle.modes.specs.Fit.{firstMisfit, fitShapeRefusal, FitChecked, Compared, Fits};
-use road::Refusal;
+ghost use Rattle.modes.specs.Fit.{firstMisfit, FitChecked, Compared, Fits};
+use refusal::Refusal;
 use road::Road;
 
 // Whether all faces of the word hold, or the lowest face that does not.
@@ -18,24 +18,11 @@ pub enum FitAnswer {
     Refused(Refusal),
 }
 
-// Internal: rows 1 to 5.
-fn judged_shape(road: Road, cells: usize) -> Refusal
-    ensures { λ f. ⌜ f ≡ fitShapeRefusal road cells ⌝ }
-{
-    let bad_cells = checks::bad_cells(cells);
-    road::judged(road).or_if(bad_cells, 5, 0)
-}
-
-// Internal: the fit test's refusal, or none. The values and the word are judged only once the cells are known to be few,
-// so that a place always fits its 32 bits.
+// Internal: the fit test's refusal, or none. It has no output, so that none is bad.
 fn judged(road: Road, cells: &[u32], up: u32, down: u32, word: &[u8]) -> Refusal
     ensures { λ f. ⌜ f ≡ fitRefusal road (now (cells .entry)) up down (now (word .entry)) ⌝ }
 {
-    let shape = judged_shape(road, cells.len());
-    if shape.number != 0 {
-        return shape;
-    }
-    words::or_pair_and_word(shape, road, cells, up, down, word)
+    words::judged_with_word(road, cells, up, down, word, false)
 }
 
 // Internal: the lowest face whose letter is not the word's, or the number of faces where each is.
@@ -59,7 +46,7 @@ fn first_misfit(road: Road, cells: &[u32], up: u32, down: u32, word: &[u8]) -> u
     i + 1
 }
 
-// Internal: the comparison of every face, of an input that no row refuses.
+// Internal: the comparison of every face, of an input that no check refuses.
 fn compared(road: Road, cells: &[u32], up: u32, down: u32, word: &[u8]) -> FitResult
     requires { ⌜ FitChecked road (now cells) up down (now word) ⌝ }
     ensures { λ f. ⌜ Compared road (now (cells .entry)) up down (now (word .entry)) f ⌝ }

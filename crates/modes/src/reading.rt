@@ -1,13 +1,12 @@
 // The reading of a state: the letter of every face, the mode of every cell, seven counts and the queued cells.
 ghost use mathlib.Core.Path.{_≡_};
-ghost use lib.ListN.{length};
 ghost use Rattle.modes.specs.Judging.{readRefusal};
-ghost use Rattle.modes.specs.Reading.{readShapeRefusal, Reads};
+ghost use Rattle.modes.specs.Reading.{Reads};
 use super::tallying::queued;
 use super::tallying::tally;
 use super::writing::write_letters;
 use super::writing::write_modes;
-use road::Refusal;
+use refusal::Refusal;
 use road::Road;
 
 // One count for each mode, 1 to 7, and the queued cells: those denser than critical.
@@ -28,30 +27,14 @@ pub struct StateReading {
     pub counts: Counts,
 }
 
-// Internal: rows 1 to 5 and 8, of the road and of the lists' lengths. The cells come as a slice, whose length leaves room
-// for one face more.
-fn judged_shape(road: Road, cells: &[u32], letters: usize, modes: usize) -> Refusal
-    ensures { λ f. ⌜ f ≡ readShapeRefusal road (length (now (cells .entry))) letters modes ⌝ }
-{
-    let bad_cells = checks::bad_cells(cells.len());
-    let bad_letters = checks::bad_output(cells.len() + 1, letters);
-    let bad_modes = checks::bad_output(cells.len(), modes);
-    let bad_output = choice::either(bad_letters, bad_modes);
-    road::judged(road)
-        .or_if(bad_cells, 5, 0)
-        .or_if(bad_output, 8, 0)
-}
-
-// Internal: the reading's refusal, or none. The values are judged only once the list is known to be short, so that a
-// place always fits its 32 bits.
+// Internal: the reading's refusal, or none.
 fn judged(road: Road, cells: &[u32], up: u32, down: u32, letters: usize, modes: usize) -> Refusal
     ensures { λ f. ⌜ f ≡ readRefusal road (now (cells .entry)) up down letters modes ⌝ }
 {
-    let shape = judged_shape(road, cells, letters, modes);
-    if shape.number != 0 {
-        return shape;
-    }
-    checks::or_pair(shape, road, cells, up, down)
+    let bad_letters = checks::bad_output(cells.len() + 1, letters);
+    let bad_modes = checks::bad_output(cells.len(), modes);
+    let bad = choice::either(bad_letters, bad_modes);
+    checks::judged_state(road, cells, up, down, bad)
 }
 
 // The letters hold the letter of every face and the modes the mode of every cell; the answer has the seven counts, whose

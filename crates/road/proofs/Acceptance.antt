@@ -6,14 +6,13 @@ use native.Mathlib.Omega.{arith}
 use lib.Dec.{eqb}
 use borrow.Author.Tests.{eqb-true, eq-eqb, not-false}
 use Rattle.road.specs.Ceilings.{divisorCeiling, jamCeiling}
-use Rattle.road.specs.Table.{passed}
-use Rattle.road.specs.Judgement.{outside, badDivisor, badSpeeds, badDensities, unbalanced, roadRows, roadRefusal, Accepted}
+use Rattle.road.specs.Judgement.{outside, badDivisor, badSpeeds, badDensities, unbalanced, roadChecks, roadRefusal, Accepted}
 use Rattle.road.specs.declared.Road.{Road}
-use Rattle.road.proofs.Table.{none-holds, _&_, all-pass}
+use Rattle.refusal.proofs.Table.{none-holds, _&_}
 use Rattle.choice.proofs.Choice.{or-left, or-right, neither}
 use Rattle.road.proofs.Ranges.{from-low, to-high, inside}
 
--- a road of which none of its four rows holds is accepted
+-- a road of which none of its four checks holds is accepted
 pub accepted-by : (r : Road) → badDivisor r ≡ false → badSpeeds r ≡ false → badDensities r ≡ false → unbalanced r ≡ false → Accepted r
 accepted-by r one two three four =
     let p = or-left (outside 1 (r .divisor) (r .free)) (outside 1 (r .divisor) (r .wave)) two in
@@ -38,9 +37,9 @@ accepted-by r one two three four =
 
 pub accepted-of : (r : Road) → roadRefusal r .number ≡ 0 → Accepted r
 unfolding roadRefusal
-accepted-of r e = let no = none-holds (roadRows r) tt e in accepted-by r (no 1) (no 2) (no 3) (no 4)
+accepted-of r e = let no = none-holds (roadChecks r) tt e in accepted-by r (no 1) (no 2) (no 3) (no 4)
 
--- and the other way round, with what is known of the rows below
+-- and the other way round, with what is known of the checks below
 pub road-passes : (r : Road) → Accepted r → {Below : Type 0} → Below
     → (badDivisor r ≡ false) × ((badSpeeds r ≡ false) × ((badDensities r ≡ false) × ((unbalanced r ≡ false) × Below)))
 road-passes r a below =
@@ -53,7 +52,3 @@ road-passes r a below =
     (inside 1 (r .jam - 1) (r .critical) (a .critical-low) (omega arith))
     & (simp (eq-eqb (r .free * r .critical) (r .wave * (r .jam - r .critical)) (a .balance)))
     & below
-
-pub accepted-passes : (r : Road) → Accepted r → roadRefusal r ≡ passed
-unfolding roadRefusal
-accepted-passes r a = all-pass (roadRows r) (road-passes r a tt)

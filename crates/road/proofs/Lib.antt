@@ -1,7 +1,4 @@
--- The road's theorems: the rule of the refusal table, and what an accepted road is.
+-- What an accepted road is, and numbers in their ranges.
 pub mod Product
 pub mod Ranges
-pub mod Table
 pub mod Acceptance
-pub mod Parts
-pub mod Calls

@@ -1,4 +1,4 @@
--- The judgement of a road: rows 1 to 4 of the refusal table, and what an accepted road is.
+-- The judgement of a road: checks 1 to 4 of the refusal table, and what an accepted road is.
 use mathlib.Core.Path.{_≡_}
 use mathlib.Core.Bool.{Bool, not}
 use mathlib.Core.List.{List, [], _∷_}
@@ -6,9 +6,9 @@ use Prim.Native.Nat.{ℕ, _-_, _*_, _≤_, _<_}
 use lib.Dec.{eqb, ltb}
 use Rattle.choice.specs.Choice.{or}
 use Rattle.road.specs.Ceilings.{divisorCeiling, jamCeiling}
-use Rattle.road.specs.Table.{Row, row, judge}
+use Rattle.refusal.specs.Table.{Check, check, judge}
 use Rattle.road.specs.declared.Road.{Road}
-use Rattle.road.specs.declared.refusal.Refusal.{Refusal}
+use Rattle.refusal.specs.declared.Refusal.{Refusal}
 
 -- a number outside its range, both ends included in the range
 abbrev pub outside : ℕ → ℕ → ℕ → Bool
@@ -30,25 +30,25 @@ badDensities r = or (outside 2 jamCeiling (r .jam)) (outside 1 (r .jam - 1) (r .
 abbrev pub unbalanced : Road → Bool
 unbalanced r = not (eqb (r .free * r .critical) (r .wave * (r .jam - r .critical)))
 
--- the rows "Road" of the table: all report place 0
-abbrev pub divisorRow : Road → Row
-divisorRow r = row (badDivisor r) 1 0
+-- the checks "Road" of the table: all report place 0
+abbrev pub divisorCheck : Road → Check
+divisorCheck r = check (badDivisor r) 1 0
 
-abbrev pub speedsRow : Road → Row
-speedsRow r = row (badSpeeds r) 2 0
+abbrev pub speedsCheck : Road → Check
+speedsCheck r = check (badSpeeds r) 2 0
 
-abbrev pub densitiesRow : Road → Row
-densitiesRow r = row (badDensities r) 3 0
+abbrev pub densitiesCheck : Road → Check
+densitiesCheck r = check (badDensities r) 3 0
 
-abbrev pub balanceRow : Road → Row
-balanceRow r = row (unbalanced r) 4 0
+abbrev pub balanceCheck : Road → Check
+balanceCheck r = check (unbalanced r) 4 0
 
-abbrev pub roadRows : Road → List Row
-roadRows r = divisorRow r ∷ speedsRow r ∷ densitiesRow r ∷ balanceRow r ∷ []
+abbrev pub roadChecks : Road → List Check
+roadChecks r = divisorCheck r ∷ speedsCheck r ∷ densitiesCheck r ∷ balanceCheck r ∷ []
 
 -- the lowest of them that applies
 unfoldable pub roadRefusal : Road → Refusal
-roadRefusal r = judge (roadRows r)
+roadRefusal r = judge (roadChecks r)
 
 -- a road that document 01 allows, sentence by sentence
 pub record Accepted (r : Road) : Type 0 where

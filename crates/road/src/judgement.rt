@@ -3,7 +3,7 @@ ghost use mathlib.Core.Path.{_≡_};
 ghost use Prim.Native.Nat.{_-_};
 ghost use Rattle.road.specs.Judgement.{outside, badDivisor, badSpeeds, badDensities, unbalanced, roadRefusal};
 use super::Road;
-use super::refusal::Refusal;
+use refusal::Refusal;
 
 // Internal: whether x lies outside low..high.
 fn is_outside(low: u32, high: u32, x: u32) -> bool

@@ -1,7 +1,6 @@
 // The road: five numbers, its ceilings, and the judgement that every call with a road makes of it first.
 mod ceilings;
 mod judgement;
-mod refusal;
 
 pub use ceilings::cells_ceiling;
 pub use ceilings::count_ceiling;
@@ -9,7 +8,6 @@ pub use ceilings::divisor_ceiling;
 pub use ceilings::horizon_ceiling;
 pub use ceilings::jam_ceiling;
 pub use judgement::judged;
-pub use refusal::Refusal;
 
 // A uniform road (document 01, "The road and its units"), in the order of its paragraph.
 pub struct Road {

@@ -20,7 +20,7 @@ use Rattle.rows.specs.declared.numerators.WholeRow.{WholeRow}
 use Rattle.floats.proofs.Signs.{natAbs-add, natAbs-mul}
 use Rattle.rows.proofs.Integers.{+ℤ-times}
 use Rattle.modes.proofs.Seven.{each-mode}
-use Rattle.rows.proofs.Sizes.{largest, sumTo, sum-row, fits, exact-in-i64, pos-exact-in-i64, entry-times, free-small, wave-small}
+use Rattle.rows.proofs.Sizes.{largest, sumTo, sum-row, fits, exact-in-i64, pos-exact-in-i64, entry-times, free-small, wave-small, row-small}
 
 -- a term as the code has it, by the natural that it is shown to be
 pub asked : {t : ℤ} {n : ℕ} → t ≡ pos n → n ≤ largest → natAbs t ≤ largest
@@ -46,17 +46,17 @@ module _ {x y z a b c : ℤ} (e : x ≡ a) (q : y ≡ b) (s : z ≡ c) (h : natA
   pub both-fit : SFits w64 (toZ w64 (ofZ w64 (x +ℤ y)) +ℤ z)
   both-fit = fits all-three all-small
 
-  pub three-kept : toZ w64 (ofZ w64 (toZ w64 (ofZ w64 (x +ℤ y)) +ℤ z)) ≡ a +ℤ b +ℤ c
-  three-kept = exact-in-i64 all-three all-small
+  pub three-exact : toZ w64 (ofZ w64 (toZ w64 (ofZ w64 (x +ℤ y)) +ℤ z)) ≡ a +ℤ b +ℤ c
+  three-exact = exact-in-i64 all-three all-small
 
 module _ (mode : ℕ) (low : 1 ≤ mode) (high : mode ≤ 7) where
   pub part-small : (k n : ℕ) → k < 7 → natAbs (entry mode k *ℤ pos n) ≤ n
   part-small k n h = entry-times mode k low high h (pos n)
 
   -- a weighted term as the code reads it back
-  pub part-kept : {z t : ℤ} (k n : ℕ) → k < 7 → n ≤ largest → t ≡ pos n → z ≡ entry mode k *ℤ t
+  pub part-exact : {z t : ℤ} (k n : ℕ) → k < 7 → n ≤ largest → t ≡ pos n → z ≡ entry mode k *ℤ t
       → toZ w64 (ofZ w64 z) ≡ entry mode k *ℤ pos n
-  part-kept k n h small e q = exact-in-i64 (q ∙ ap (λ x. entry mode k *ℤ x) e) (le-trans (part-small k n h) (le-trans small (lit≤ tt)))
+  part-exact k n h small e q = exact-in-i64 (q ∙ ap (λ x. entry mode k *ℤ x) e) (le-trans (part-small k n h) (le-trans small (lit≤ tt)))
 
   module _ (r : Road) (ok : Accepted r) where
     pub left-small : natAbs (leftCoefficient r mode) ≤ divisorCeiling
@@ -120,8 +120,8 @@ module _ {n : ℕ} (k : ℤ) {bound : ℕ} (h : n ≤ jamCeiling) (g : natAbs k 
   pub times-fits : SFits w64 (toZ w64 n *ℤ toZ w64 (ofZ w64 k))
   times-fits = fits same-times fitting
 
-  pub times-kept : toZ w64 (ofZ w64 (toZ w64 n *ℤ toZ w64 (ofZ w64 k))) ≡ pos n *ℤ k
-  times-kept = exact-in-i64 same-times fitting
+  pub times-exact : toZ w64 (ofZ w64 (toZ w64 n *ℤ toZ w64 (ofZ w64 k))) ≡ pos n *ℤ k
+  times-exact = exact-in-i64 same-times fitting
 
 -- a row applied: every product and every sum fits, and the last is read back
 module _ (row : WholeRow) (small : Sized row) (left own right : ℕ) (l : left ≤ jamCeiling) (o : own ≤ jamCeiling) (t : right ≤ jamCeiling) where
@@ -149,7 +149,7 @@ module _ (row : WholeRow) (small : Sized row) (left own right : ℕ) (l : left �
   module _ {x y z w : ℤ} (e : x ≡ pos left *ℤ row .left) (q : y ≡ pos own *ℤ row .own) (s : z ≡ pos right *ℤ row .right) (u : w ≡ row .constant) where
     all-four : toZ w64 (ofZ w64 (toZ w64 (ofZ w64 (x +ℤ y)) +ℤ z)) +ℤ w ≡ appliedTo row left own right
     unfolding appliedTo
-    all-four = ap₂ _+ℤ_ (three-kept e q s first-three) u
+    all-four = ap₂ _+ℤ_ (three-exact e q s first-three) u
 
     pub add-first : SFits w64 (x +ℤ y)
     add-first = first-fits e q s first-three
@@ -160,8 +160,8 @@ module _ (row : WholeRow) (small : Sized row) (left own right : ℕ) (l : left �
     pub add-third : SFits w64 (toZ w64 (ofZ w64 (toZ w64 (ofZ w64 (x +ℤ y)) +ℤ z)) +ℤ w)
     add-third = fits all-four applied-small
 
-    pub applied-kept : toZ w64 (ofZ w64 (toZ w64 (ofZ w64 (toZ w64 (ofZ w64 (x +ℤ y)) +ℤ z)) +ℤ w)) ≡ appliedTo row left own right
-    applied-kept = exact-in-i64 all-four applied-small
+    pub applied-exact : toZ w64 (ofZ w64 (toZ w64 (ofZ w64 (toZ w64 (ofZ w64 (x +ℤ y)) +ℤ z)) +ℤ w)) ≡ appliedTo row left own right
+    applied-exact = exact-in-i64 all-four applied-small
 
 -- a multiplier times a speed times a density, the density taken out
 taken-out : (k : ℤ) (speed x : ℕ) → k *ℤ pos (speed * x) ≡ pos x *ℤ (k *ℤ pos speed)
@@ -221,3 +221,8 @@ module _ (r : Road) (ok : Accepted r) {rows : List WholeRow} (e : rows ≡ whole
   unfolding wholeRow appliedTo
   read-applied left own right l o t =
       ap (λ (row : WholeRow). appliedTo row left own right) row-read ∙ sym (row-split r ok mode low high left own right l o t)
+
+  -- the value, as it is read back to be written
+  pub read-value : (left own right : ℕ) → left ≤ r .jam → own ≤ r .jam → right ≤ r .jam → {z : ℤ}
+      → z ≡ appliedTo (getD rows (mode - 1) d) left own right → toZ w64 (ofZ w64 z) ≡ rowValue r mode left own right
+  read-value left own right l o t e = exact-in-i64 (e ∙ read-applied left own right l o t) (row-small r ok left own right l o t mode low high)

@@ -1,13 +1,8 @@
--- Laws of the integers beside the library's: a sum times a number, and differences of naturals with their sizes.
-use mathlib.Core.Path.{_≡_, refl, ap, sym, _∙_}
-use Prim.Native.Nat.{ℕ, zero, suc, _+_, _-_, _*_, _≤_}
-use native.Mathlib.Nat.{sub-add-cancel, le-of-lt, lt-of-not-le}
-use native.Mathlib.Decide.{decLe}
-use native.Mathlib.Omega.{arith}
-use lib.IntN.{ℤ, pos, negsuc, sucℤ, predℤ, _+ℤ_, _-ℤ_, _*ℤ_, negℤ, natAbs, sucℤ-+ℤ, predℤ-+ℤ, sucℤ-*ℤ, predℤ-*ℤ, zero-*ℤ}
-use lib.IntN.{+ℤ-idl, +ℤ-assoc, +ℤ-comm, +ℤ-negℤ-cancel, negℤ-+ℤ, negℤ-negℤ}
-use Rattle.floats.proofs.Signs.{natAbs-neg}
-use Rattle.scheme.specs.Sums.{gap}
+-- Laws of the integers beside the library's: a sum regrouped, and a sum times a number.
+use mathlib.Core.Path.{_≡_, ap, sym, _∙_}
+use Prim.Native.Nat.{zero, suc, _+_, _-_, _*_}
+use lib.IntN.{ℤ, pos, negsuc, sucℤ, predℤ, _+ℤ_, _*ℤ_, negℤ, sucℤ-+ℤ, predℤ-+ℤ, sucℤ-*ℤ, predℤ-*ℤ, zero-*ℤ}
+use lib.IntN.{+ℤ-idl, +ℤ-assoc, +ℤ-comm}
 
 -- every integer is reached from 0 by steps of one
 pub by-steps : (P : ℤ → Type 0) → P (pos 0) → ((m : ℤ) → P m → P (sucℤ m)) → ((m : ℤ) → P m → P (predℤ m)) → (k : ℤ) → P k
@@ -31,21 +26,3 @@ pub +ℤ-times : (a b k : ℤ) → (a +ℤ b) *ℤ k ≡ a *ℤ k +ℤ b *ℤ k
     (λ m e. simp (sucℤ-+ℤ, sucℤ-*ℤ, e) (+ℤ-swap (m *ℤ k) (b *ℤ k) k))
     (λ m e. simp (predℤ-+ℤ, predℤ-*ℤ, e) (+ℤ-swap (m *ℤ k) (b *ℤ k) (negℤ k)))
     a
-
--- a difference of naturals that is not cut off
-pub pos-minus : {m n : ℕ} → n ≤ m → pos m -ℤ pos n ≡ pos (m - n)
-pos-minus {m} {n} h = ap (λ x. pos x -ℤ pos n) (sym (sub-add-cancel h)) ∙ +ℤ-negℤ-cancel (pos (m - n)) (pos n)
-
--- the size of a difference of naturals
-pub natAbs-minus : (m n : ℕ) → natAbs (pos m -ℤ pos n) ≡ gap m n
-unfolding gap
-natAbs-minus m n = by-order (decLe n m)
-  where
-    turned : negℤ (pos n -ℤ pos m) ≡ pos m -ℤ pos n
-    turned = simp (negℤ-+ℤ, negℤ-negℤ) (+ℤ-comm (negℤ (pos n)) (pos m))
-
-    by-order : Dec (n ≤ m) → natAbs (pos m -ℤ pos n) ≡ (m - n) + (n - m)
-    by-order (yes h) = rw (pos-minus h) (omega arith)
-    by-order (no f) =
-        let h = le-of-lt (lt-of-not-le f) in
-        rw (← turned, natAbs-neg, pos-minus h) (omega arith)

@@ -30,15 +30,15 @@ module _ (r : Road) (cells : List ℕ) (up down : ℕ) (word : List ℕ) (out : 
         let own-rows : rows ≡ rowNumerators r up down (wordOf r up down cells) cells =
         written ∙ ap (λ (w : List ℕ). rowNumerators r up down w cells) q in
         record {
-          exact = λ caps k h free. rw own-rows (row-uncapped r (c .accepted) up down cells (c .up-below) (c .down-below) (c .cells-below) caps k h free);
-          exact-step = λ caps. exact-step-by-faces r caps (c .accepted) 1 up down cells;
-          near = λ caps k h free. rw own-rows (row-near r (c .accepted) up down cells (c .up-below) (c .down-below) (c .cells-below) caps k h free);
-          plain = own-rows ∙ rows-open r (c .accepted) up down cells (c .up-below) (c .down-below) (c .cells-below);
-          plain-near = λ k. rw own-rows (rows-open-near r (c .accepted) up down cells (c .up-below) (c .down-below) (c .cells-below) k);
+          exact = λ caps k h free. rw own-rows (row-uncapped r (c .state .accepted) up down cells (c .state .up-below) (c .state .down-below) (c .state .cells-below) caps k h free);
+          exact-step = λ caps. exact-step-by-faces r caps (c .state .accepted) 1 up down cells;
+          near = λ caps k h free. rw own-rows (row-near r (c .state .accepted) up down cells (c .state .up-below) (c .state .down-below) (c .state .cells-below) caps k h free);
+          plain = own-rows ∙ rows-open r (c .state .accepted) up down cells (c .state .up-below) (c .state .down-below) (c .state .cells-below);
+          plain-near = λ k. rw own-rows (rows-open-near r (c .state .accepted) up down cells (c .state .up-below) (c .state .down-below) (c .state .cells-below) k);
         };
     occurs =
         let long = c .word-long in
-        let low = c .cells-low in
-        let high = c .cells-high in
-        read-off r (c .accepted) word (c .word-legal) (omega arith) (omega arith);
+        let low = c .state .cells-low in
+        let high = c .state .cells-high in
+        read-off r (c .state .accepted) word (c .word-legal) (omega arith) (omega arith);
   }

@@ -6,7 +6,7 @@ use Prim.Native.Nat.{ℕ, zero, suc, _+_, _-_, _*_, _≤_, _<_}
 use native.Mathlib.Nat.{zero-mul, one-mul, zero-add, add-zero, mul-sub, mul-le-mul-left, min-eq-left}
 use native.Mathlib.Numerals.{add-one}
 use native.Mathlib.Omega.{arith}
-use lib.IntN.{ℤ, pos, _+ℤ_, _-ℤ_, negℤ, natAbs, +ℤ-idl, +ℤ-idr, +ℤ-assoc, +ℤ-comm, -ℤ-+ℤ-cancel}
+use lib.IntN.{ℤ, pos, _+ℤ_, _-ℤ_, negℤ, natAbs, +ℤ-idl, +ℤ-idr, +ℤ-assoc, +ℤ-comm}
 use lib.ListN.{length, getD, List·getD-map}
 use lib.Seq.{ext-getD}
 use borrow.Author.Tests.{le-ltb}
@@ -19,7 +19,7 @@ use Rattle.scheme.specs.Advance.{ahead, advance, entering, stepped}
 use Rattle.scheme.specs.Exact.{exactStep}
 use Rattle.scheme.specs.Rounded.{openCaps, roundStep}
 use Rattle.scheme.specs.ByFaces.{numeratorOver}
-use Rattle.scheme.specs.Sums.{Below}
+use Rattle.scheme.specs.Sums.{gap, Below}
 use Rattle.scheme.specs.Word.{wordOf}
 use Rattle.scheme.proofs.Ahead.{ahead-below}
 use Rattle.scheme.proofs.Shape.{stepped-length}
@@ -32,7 +32,7 @@ use Rattle.modes.specs.Modes.{modeOf}
 use Rattle.rows.specs.Rows.{leftFlow, rightFlow, terms, dot, rowValue, rowNumerators}
 use Rattle.rows.specs.Prediction.{Uncapped}
 use Rattle.words.proofs.Legal.{neighbours}
-use Rattle.rows.proofs.Integers.{pos-minus, natAbs-minus}
+use Rattle.floats.proofs.Signs.{pos-minus, natAbs-minus}
 use Rattle.rows.proofs.Table.{row-rule}
 
 -- columns whose multiplier is 0 or 1
@@ -83,11 +83,6 @@ module _ (r : Road) (ok : Accepted r) where
         let rule = row-rule (letter r left own) (letter r own right) known other (legal-pair left own right) r ok left own right in
         rw (rule, left-own left own right own-high, right-own left own right right-high)
         (sym (+ℤ-assoc (pos (r .divisor * own)) (pos (numerator r left own)) (negℤ (pos (numerator r own right)))))
-
-    -- the row plus what goes out is D × own plus what comes in
-    pub row-balance : rowValue r (modeOf (letter r left own) (letter r own right)) left own right +ℤ pos (numerator r own right)
-        ≡ pos (r .divisor * own + numerator r left own)
-    row-balance = rw row-value (-ℤ-+ℤ-cancel (pos (r .divisor * own + numerator r left own)) (pos (numerator r own right)))
 
     -- so it is the exact step, and no difference is cut off at 0
     pub row-exact : rowValue r (modeOf (letter r left own) (letter r own right)) left own right
@@ -143,6 +138,7 @@ module _ (r : Road) (ok : Accepted r) where
     -- and D times a rounded new density differs from its row's value by less than D
     near-of : (caps : List ℕ) (k : ℕ) → getD rows k (pos 0) ≡ pos (getD (exactStep r caps 1 up down xs) k 0)
         → natAbs (pos (r .divisor * getD (roundStep r caps up down xs) k 0) -ℤ getD rows k (pos 0)) < r .divisor
+    unfolding gap
     near-of caps k e = rw (e, natAbs-minus) (round-near-cell r caps ok up down xs k)
 
     pub row-near : (caps : List ℕ) (k : ℕ) → k < length xs → Uncapped r caps up down xs k

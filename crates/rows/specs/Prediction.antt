@@ -3,23 +3,19 @@ use mathlib.Core.Path.{_≡_}
 use mathlib.Core.Bool.{true}
 use mathlib.Core.List.{List, map}
 use Prim.Native.Nat.{ℕ, _+_, _*_, _≤_, _<_}
-use lib.Dec.{eqb}
 use lib.IntN.{ℤ, pos, _-ℤ_, natAbs}
 use lib.ListN.{length, getD}
-use Rattle.choice.specs.Choice.{pick}
-use Rattle.road.specs.Ceilings.{cellsCeiling}
-use Rattle.road.specs.Table.{judge, refused, Judged}
-use Rattle.road.specs.Judgement.{Accepted}
+use Rattle.refusal.specs.Table.{refused, Judged, unlessRefused}
 use Rattle.road.specs.declared.Road.{Road}
-use Rattle.road.specs.declared.refusal.Refusal.{Refusal}
-use Rattle.scheme.specs.Sums.{Below}
+use Rattle.refusal.specs.declared.Refusal.{Refusal}
+use Rattle.checks.specs.State.{StateChecked}
 use Rattle.scheme.specs.Word.{wordOf}
 use Rattle.scheme.specs.Exact.{exactStep}
 use Rattle.scheme.specs.Rounded.{openCaps, roundStep}
 use Rattle.scheme.specs.ByFaces.{numeratorOver, ExactStepByFaces}
 use Rattle.words.specs.Words.{legal}
 use Rattle.rows.specs.Rows.{rowNumerators}
-use Rattle.rows.specs.Judging.{predictShapeRows, predictRows, predictRefusal}
+use Rattle.rows.specs.Judging.{predictChecks, predictRefusal}
 use Rattle.words.specs.Places.{PairWordPlaced}
 use Rattle.modes.specs.ReadOff.{ReadOff}
 use Rattle.rows.specs.declared.prediction.PredictAnswer.{PredictAnswer}
@@ -27,12 +23,12 @@ use Rattle.rows.specs.declared.prediction.PredictAnswer.the-variants.{Do
 
 unfoldable pub predictAnswer : Road → List ℕ → ℕ → ℕ → List ℕ → ℕ → PredictAnswer
 predictAnswer r cells up down word out =
-    pick (eqb (predictRefusal r cells up down word out .number) 0) Done (Refused (predictRefusal r cells up down word out))
+    unlessRefused (predictRefusal r cells up down word out) Done (Refused (predictRefusal r cells up down word out))
 
 -- the numerators written, or the former contents
 unfoldable pub predicted : Road → List ℕ → ℕ → ℕ → List ℕ → List ℤ → List ℤ
 predicted r cells up down word out =
-    pick (eqb (predictRefusal r cells up down word (length out) .number) 0) (rowNumerators r up down word cells) out
+    unlessRefused (predictRefusal r cells up down word (length out)) (rowNumerators r up down word cells) out
 
 -- the paper's numbers of an answer: number (0 when accepted) and place
 abbrev pub predictNumber : PredictAnswer → ℕ
@@ -43,26 +39,17 @@ abbrev pub predictPlace : PredictAnswer → ℕ
 predictPlace Done = 0
 predictPlace (Refused f) = f .place
 
--- what the rows 1 to 5 and 8 come to
-unfoldable pub predictShapeRefusal : Road → ℕ → ℕ → Refusal
-predictShapeRefusal r n out = judge (predictShapeRows r n out)
-
--- what an input that no row refuses is
+-- what an input that no check refuses is
 pub record PredictChecked (r : Road) (cells : List ℕ) (up down : ℕ) (word : List ℕ) (out : ℕ) : Type 0 where
-  pub accepted : Accepted r
-  pub cells-low : 1 ≤ length cells
-  pub cells-high : length cells ≤ cellsCeiling
+  pub state : StateChecked r cells up down
   pub output-long : out ≡ length cells
-  pub cells-below : Below (r .jam) cells
-  pub up-below : up ≤ r .jam
-  pub down-below : down ≤ r .jam
   pub word-long : length word ≡ length cells + 1
   pub word-legal : legal word ≡ true
 
--- demand 1 of a refusal, of the row prediction's rows
+-- demand 1 of a refusal, of the row prediction's checks
 abbrev pub PredictJudged : Road → List ℕ → ℕ → ℕ → List ℕ → ℕ → Refusal → Type 0
 PredictJudged r cells up down word out f =
-    Judged (predictRows r cells up down word out) (PredictChecked r cells up down word out) (PairWordPlaced r cells up down word) f
+    Judged (predictChecks r cells up down word out) (PredictChecked r cells up down word out) (PairWordPlaced r cells up down word) f
 
 -- "neither face's numerator exceeds its cap × D", equality included: the faces of cell k+1, which stands at place k, are k and k+1
 pub record Uncapped (r : Road) (caps : List ℕ) (up down : ℕ) (cells : List ℕ) (k : ℕ) : Type 0 where

@@ -3,9 +3,9 @@ ghost use mathlib.Core.Path.{_≡_};
 ghost use lib.ListN.{length};
 ghost use Rattle.rows.specs.Rows.{rowNumerators};
 ghost use Rattle.rows.specs.Judging.{predictRefusal};
-ghost use Rattle.rows.specs.Prediction.{predictShapeRefusal, PredictChecked, Predicts};
+ghost use Rattle.rows.specs.Prediction.{PredictChecked, Predicts};
 use super::numerators::rows_of;
-use road::Refusal;
+use refusal::Refusal;
 use road::Road;
 
 // What a row prediction answers.
@@ -14,27 +14,12 @@ pub enum PredictAnswer {
     Refused(Refusal),
 }
 
-// Internal: rows 1 to 5 and 8.
-fn judged_shape(road: Road, cells: usize, out: usize) -> Refusal
-    ensures { λ f. ⌜ f ≡ predictShapeRefusal road cells out ⌝ }
-{
-    let bad_cells = checks::bad_cells(cells);
-    let bad_output = checks::bad_output(cells, out);
-    road::judged(road)
-        .or_if(bad_cells, 5, 0)
-        .or_if(bad_output, 8, 0)
-}
-
-// Internal: the row prediction's refusal, or none. The values and the word are judged only once the cells are known to
-// be few, so that a place always fits its 32 bits.
+// Internal: the row prediction's refusal, or none.
 fn judged(road: Road, cells: &[u32], up: u32, down: u32, word: &[u8], out: usize) -> Refusal
     ensures { λ f. ⌜ f ≡ predictRefusal road (now (cells .entry)) up down (now (word .entry)) out ⌝ }
 {
-    let shape = judged_shape(road, cells.len(), out);
-    if shape.number != 0 {
-        return shape;
-    }
-    words::or_pair_and_word(shape, road, cells, up, down, word)
+    let bad = checks::bad_output(cells.len(), out);
+    words::judged_with_word(road, cells, up, down, word, bad)
 }
 
 // Internal: the output then holds a numerator for each cell, by the row of the letters on its two faces.

@@ -55,4 +55,4 @@ lawful {p} {caps} h = partners (p .road) caps (h .accepted) .rounded
 -- and the next call is ready, with as many cells in range
 pub ready-again : {p : Pace} {caps xs ys : List ℕ} {up down : ℕ} → Ready p caps xs up down → length ys ≡ length xs → Below (p .road .jam) ys → Ready p caps ys up down
 ready-again h e below =
-    record { accepted = h .accepted; made = h .made; caps-long = rw e (h .caps-long); some = rw e (h .some); below = below; up-high = h .up-high; down-high = h .down-high }
+    record { accepted = h .accepted; pace-of-road = h .pace-of-road; caps-long = rw e (h .caps-long); some = rw e (h .some); below = below; up-high = h .up-high; down-high = h .down-high }

@@ -18,9 +18,9 @@ use Rattle.scheme.proofs.Shape.{stepped-length}
 use Rattle.scheme.proofs.Range.{stepped-cell}
 use Rattle.scheme.proofs.Runs.{ran-length, run-below, run-balance, run-monotone, run-contraction, scaled-below}
 use Rattle.scheme.proofs.Lists.{pairs-at}
-use Rattle.scheme.proofs.Scaling.{stepAt-times, ranAt-times}
+use Rattle.scheme.proofs.Scaling.{stepAt-times}
 use Rattle.scheme.proofs.Underway.{run-small}
-use Rattle.scheme.proofs.Distance.{step-near, step-rounding, run-rounding}
+use Rattle.scheme.proofs.Distance.{step-near, run-rounding}
 
 -- the k steps of a settling run are the run over k copies of its end pair
 pub after-run : (r : Road) (caps : List ℕ) (up down k : ℕ) (xs : List ℕ) → after r caps up down k xs ≡ roundRun r caps (replicate k up) (replicate k down) xs
@@ -83,11 +83,6 @@ module _ (r : Road) (caps : List ℕ) (ok : Accepted r) where
       let low = ok .divisor-low in
       omega (arith, pairs-at (omega arith) (step-near (partners r caps ok) u d xs) k)
 
-  -- summed over the cells, D × the rounded new cells differ from the exact step of the same state by at most n × (D − 1)
-  pub round-near-step : (u d : ℕ) (xs : List ℕ)
-      → distance (times (r .divisor) (roundStep r caps u d xs)) (exactStep r caps 1 u d xs) ≤ length xs * (r .divisor - 1)
-  round-near-step = step-rounding (partners r caps ok)
-
   -- D times the summed distance from the exact scheme, at scale D to the power T, is at most n × T × (D − 1) at that scale
   pub round-near : (ups downs xs : List ℕ) → length ups ≡ length downs
       → r .divisor * distance (times (r .divisor ^ length ups) (roundRun r caps ups downs xs)) (exactRun r caps 1 ups downs xs)
@@ -124,7 +119,3 @@ settle-length r caps up down t xs =
 -- the scale does not matter: k times the densities, at k times the scale, give k times the result, so that the whole-number form is document 01's fractions times Z
 pub exact-scale : (r : Road) (caps : List ℕ) (k z u d : ℕ) (xs : List ℕ) → exactStep r caps (k * z) u d (times k xs) ≡ times k (exactStep r caps z u d xs)
 exact-scale r caps = stepAt-times (exactFlow r caps) (capped-homogeneous r caps) (r .divisor)
-
-pub exact-run-scale : (r : Road) (caps : List ℕ) (k z : ℕ) (ups downs xs : List ℕ) → exactRun r caps (k * z) ups downs (times k xs) ≡ times k (exactRun r caps z ups downs xs)
-unfolding exactRun
-exact-run-scale r caps = ranAt-times (λ t. exactFlow r caps) (λ t. capped-homogeneous r caps) (r .divisor)

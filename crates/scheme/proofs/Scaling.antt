@@ -5,7 +5,7 @@ use Prim.Native.Nat.{ℕ, suc, _+_, _-_, _*_}
 use native.Mathlib.Nat.{mul-sub, mul-add, mul-assoc, mul-left-comm}
 use Rattle.scheme.specs.Advance.{ahead, advance, entering, stepped}
 use Rattle.scheme.specs.Sums.{times}
-use Rattle.scheme.specs.Runs.{ran, stepAt, scaleOf, ranAt}
+use Rattle.scheme.specs.Runs.{stepAt}
 
 pub ahead-times : (k d : ℕ) (xs : List ℕ) → ahead (k * d) (times k xs) ≡ k * ahead d xs
 unfolding ahead times
@@ -34,12 +34,3 @@ module _ (m k : ℕ) (F G : ℕ → ℕ → ℕ → ℕ) (homog : (i a b : ℕ) 
 pub stepAt-times : (G : ℕ → ℕ → ℕ → ℕ → ℕ) → ((k z i a b : ℕ) → G (k * z) i (k * a) (k * b) ≡ k * G z i a b)
     → (m k z u d : ℕ) (xs : List ℕ) → stepAt m G (k * z) u d (times k xs) ≡ times k (stepAt m G z u d xs)
 stepAt-times G homog m k z u d xs = rw (mul-assoc k z u, mul-assoc k z d) (stepped-times m k (G z) (G (k * z)) (homog k z) (z * u) (z * d) xs)
-
-pub ranAt-times : (G : ℕ → ℕ → ℕ → ℕ → ℕ → ℕ) → ((t k z i a b : ℕ) → G t (k * z) i (k * a) (k * b) ≡ k * G t z i a b)
-    → (m k z : ℕ) (ups downs xs : List ℕ) → ranAt m G (k * z) ups downs (times k xs) ≡ times k (ranAt m G z ups downs xs)
-unfolding ran scaleOf
-ranAt-times G homog m k z [] downs xs = refl
-ranAt-times G homog m k z (u ∷ ups) [] xs = refl
-ranAt-times G homog m k z (u ∷ ups) (d ∷ downs) xs =
-    rw (stepAt-times (G 0) (homog 0) m k z u d xs, mul-left-comm m k z)
-    (ranAt-times (λ t. G (suc t)) (λ t. homog (suc t)) m k (m * z) ups downs (stepAt m (G 0) z u d xs))

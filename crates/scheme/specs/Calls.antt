@@ -19,7 +19,7 @@ use Rattle.scheme.specs.declared.many_steps.Totals.{Totals}
 -- what a step, a test of stillness and a settling run ask: a pace that was made of an accepted road, a cap for each face, at least one cell, cells and ends in range
 pub record Ready (p : Pace) (caps xs : List ℕ) (up down : ℕ) : Type 0 where
   pub accepted : Accepted (p .road)
-  pub made : p ≡ paceOf (p .road)
+  pub pace-of-road : p ≡ paceOf (p .road)
   pub caps-long : length caps ≡ length xs + 1
   pub some : 0 < length xs
   pub below : Below (p .road .jam) xs

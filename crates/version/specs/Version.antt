@@ -5,11 +5,11 @@ abbrev pub major : ℕ
 major = 0
 
 abbrev pub minor : ℕ
-minor = 10
+minor = 11
 
 abbrev pub patch : ℕ
 patch = 0
 
--- 0.10.0 is 1000: ten thousand a major, a hundred a minor version
+-- 0.11.0 is 1100: ten thousand a major, a hundred a minor version
 abbrev pub versionNumber : ℕ
 versionNumber = major * 10000 + minor * 100 + patch

@@ -5,7 +5,7 @@ ghost use Rattle.version.specs.Version.{versionNumber};
 
 pub const MAJOR: u32 = 0;
 
-pub const MINOR: u32 = 10;
+pub const MINOR: u32 = 11;
 
 pub const PATCH: u32 = 0;
 

@@ -3,9 +3,9 @@ use mathlib.Core.Path.{_≡_, _∙_, sym, ap}
 use mathlib.Core.List.{List}
 use Prim.Native.Nat.{ℕ}
 use lib.ListN.{length}
-use Rattle.road.specs.Table.{refused}
+use Rattle.refusal.specs.Table.{refused}
 use Rattle.road.specs.declared.Road.{Road}
-use Rattle.road.specs.declared.refusal.Refusal.{Refusal}
+use Rattle.refusal.specs.declared.Refusal.{Refusal}
 use Rattle.scheme.specs.declared.many_steps.Totals.{Totals}
 use Rattle.scheme.specs.declared.settling.Settled.{Settled}
 use Rattle.forecast.specs.declared.forecasting.Record.{Record}

@@ -2,4 +2,5 @@
 pub mod Answers
 pub mod ForecastAnswers
 pub mod ModeAnswers
-pub mod SiteAnswers
+pub mod StationAnswers
+pub mod RankingAnswers

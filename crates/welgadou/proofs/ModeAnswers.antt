@@ -8,9 +8,9 @@ use lib.IntN.{ℤ}
 use lib.Ieee.{Float}
 use lib.ListN.{length}
 use borrow.Author.Tests.{eq-eqb}
-use Rattle.road.specs.Table.{refused}
+use Rattle.refusal.specs.Table.{refused}
 use Rattle.road.specs.declared.Road.{Road}
-use Rattle.road.specs.declared.refusal.Refusal.{Refusal}
+use Rattle.refusal.specs.declared.Refusal.{Refusal}
 use Rattle.modes.specs.declared.reading.ReadAnswer.{ReadAnswer}
 use Rattle.modes.specs.declared.reading.ReadAnswer.the-variants as R
 use Rattle.modes.specs.declared.reading.StateReading.{StateReading}

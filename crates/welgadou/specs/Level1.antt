@@ -4,7 +4,7 @@ use mathlib.Core.Bool.{Bool}
 use mathlib.Core.List.{List}
 use Prim.Native.Nat.{ℕ}
 use lib.ListN.{length}
-use Rattle.road.specs.Table.{refused}
+use Rattle.refusal.specs.Table.{refused}
 use Rattle.road.specs.declared.Road.{Road}
 use Rattle.scheme.specs.ByFaces.{RunByFaces}
 use Rattle.scheme.specs.declared.many_steps.Totals.{Totals}

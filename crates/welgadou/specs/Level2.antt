@@ -7,7 +7,7 @@ use Prim.Native.Nat.{ℕ}
 use lib.IntN.{ℤ, pos}
 use lib.ListN.{length}
 use lib.Ieee.{Float, fin}
-use Rattle.road.specs.Table.{refused}
+use Rattle.refusal.specs.Table.{refused}
 use Rattle.road.specs.declared.Road.{Road}
 use Rattle.modes.specs.Judging.{readRefusal}
 use Rattle.rows.specs.Judging.{predictRefusal}

@@ -2,4 +2,5 @@
 pub mod Parts
 pub mod Level1
 pub mod Level2
-pub mod Level3
+pub mod Stations
+pub mod Rankings

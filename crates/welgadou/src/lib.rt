@@ -5,6 +5,7 @@
 mod ceilings;
 mod level1;
 mod level2;
-mod level3;
 mod parts;
+mod rankings;
+mod stations;
 mod versions;

@@ -9,7 +9,7 @@ use native.Mathlib.Omega.{arith}
 use lib.ListN.{length, getD}
 use lib.Dec.{ltb, eqb}
 use borrow.Author.Tests.{ltb-false, le-ltb, eqb-true, eq-eqb}
-use Rattle.choice.specs.Choice.{pick, or, both}
+use Rattle.choice.specs.Choice.{pick, both}
 use Rattle.road.specs.Judgement.{Accepted}
 use Rattle.road.specs.declared.Road.{Road}
 use Rattle.choice.proofs.Choice.{or-left}
@@ -116,9 +116,6 @@ of-legal : {before : ℕ} {word : List ℕ} → Legal before word → firstOffen
 unfolding firstOffence
 of-legal none = refl
 of-legal (one e p) = rw e (ap suc (of-legal p))
-
-pub legal-after : (before : ℕ) (word : List ℕ) → (firstOffence before word ≡ length word) ↔ Legal before word
-legal-after before word = (to-legal before word, of-legal)
 
 -- the test of legality holds of the legal words
 pub legal-word : (word : List ℕ) → (legal word ≡ true) ↔ Legal letterD word

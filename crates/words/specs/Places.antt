@@ -5,7 +5,7 @@ use mathlib.Core.List.{List, [], _∷_}
 use Prim.Native.Nat.{ℕ, _+_, _<_}
 use lib.ListN.{length, getD}
 use Rattle.road.specs.declared.Road.{Road}
-use Rattle.road.specs.declared.refusal.Refusal.{Refusal}
+use Rattle.refusal.specs.declared.Refusal.{Refusal}
 use Rattle.checks.specs.Places.{Placed}
 use Rattle.flux.specs.Face.{letterD}
 use Rattle.words.specs.Words.{offends}

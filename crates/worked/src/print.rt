@@ -3,7 +3,7 @@
 use printing::lists;
 use printing::page::Page;
 use printing::say;
-use road::Refusal;
+use refusal::Refusal;
 
 // How much of a list is shown.
 const MOST: usize = 4;

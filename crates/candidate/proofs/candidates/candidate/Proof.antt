@@ -1,7 +1,7 @@
 -- `candidate::candidate` meets its contract: refused, or the mode's row applied.
 use mathlib.Core.Path.{_≡_, _∙_, ap}
-use Rattle.road.proofs.Parts.{same-number}
-use Rattle.road.proofs.Calls.{checked}
+use Rattle.refusal.proofs.Parts.{same-number}
+use Rattle.refusal.proofs.Calls.{checked}
 use Rattle.candidate.specs.declared.candidates.CandidateRow.{CandidateRow}
 use Rattle.candidate.specs.Candidate.{applied, candidateRefusal}
 use Rattle.candidate.proofs.CandidateAnswers.{candidate-call, candidate-refused, candidate-done}
@@ -34,6 +34,4 @@ returns-2 c =
     (c .applied .ensures ∙ ap (λ (row : CandidateRow). applied row (a .left) (a .own) (a .right)) (c .before .of .ensures))
 
 pub candidate-spec : {M : Type 1} → statement M
-candidate-spec =
-    tie.close
-    (tie.spec (λ c κs. search needs) returns of-requires (λ c κs. search needs) returns-2)
+candidate-spec = tie.close (tie.spec (λ c κs. search needs) returns of-requires (λ c κs. search needs) returns-2)

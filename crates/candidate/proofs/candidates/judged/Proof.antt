@@ -1,10 +1,10 @@
--- `candidate::judged` of the candidate meets its contract: below the road's rows, row by row.
+-- `candidate::judged` of the candidate meets its contract: below the road's checks, check by check.
 use mathlib.Core.Path.{_∙_, refl, ap₂}
 use mathlib.Core.Bool.{Bool}
 use Prim.Native.Nat.{ℕ}
 use Rattle.choice.specs.Choice.{pick, or}
 use Rattle.road.specs.Judgement.{roadRefusal}
-use Rattle.road.proofs.Table.{next-row}
+use Rattle.refusal.proofs.Table.{next-check}
 use Rattle.candidate.specs.Candidate.{candidateRefusal}
 use borrow.Author.Needs.{needs}
 use Rattle.candidate.proofs.candidates.judged.Statement.{statement}
@@ -22,8 +22,8 @@ returns c =
     let left = own .before in
     let mode = left .before in
     c .or-if2 .ensures
-    ∙ next-row 14
-    (c .before .or-if .ensures ∙ next-row 13 (road .judged .ensures) (mode .bad-mode .ensures) refl)
+    ∙ next-check 14
+    (c .before .or-if .ensures ∙ next-check 13 (road .judged .ensures) (mode .bad-mode .ensures) refl)
     (any .either2 .ensures
     ∙ ap₂ or (left .bad-estimate .ensures)
     (other .either .ensures ∙ ap₂ or (own .bad-estimate2 .ensures) (right .bad-estimate3 .ensures)))

@@ -1,10 +1,10 @@
--- `checks::or_pair` meets its contract: row by row below what the rows above came to.
+-- `checks::or_pair` meets its contract: check by check below what the checks above came to.
 use mathlib.Core.Path.{_∙_, refl, ap}
 use Prim.Native.Nat.{ℕ, _+_}
 use lib.Dec.{ltb}
 use lib.ListN.{length}
-use Rattle.road.proofs.Table.{next-row}
-use Rattle.checks.proofs.Rows.{one-end}
+use Rattle.refusal.proofs.Table.{next-check}
+use Rattle.checks.proofs.Checks.{one-end}
 use borrow.Author.Needs.{needs}
 use Rattle.checks.proofs.pairs.or_pair.Statement.{statement}
 use Rattle.checks.proofs.pairs.or_pair.Tie as tie
@@ -20,7 +20,7 @@ returns c =
     (c .before .or-if2 .ensures
     ∙ one-end 10 (s .args .road .jam) (s .args .up)
     (c .before .before .or-if .ensures
-    ∙ next-row 9 refl
+    ∙ next-check 9 refl
     (ap (λ (k : ℕ). ltb k (length (s .args .cells .now))) (cell .first-above .ensures .at))
     (ap (λ (k : ℕ). k + 1) (cell .first-above .ensures .at)))
     (up .is-above .ensures))

@@ -1,7 +1,7 @@
 -- `counting::count` meets its contract: refused above the ceiling, otherwise counted.
 use mathlib.Core.Path.{_≡_}
-use Rattle.road.proofs.Parts.{same-number}
-use Rattle.road.proofs.Calls.{checked}
+use Rattle.refusal.proofs.Parts.{same-number}
+use Rattle.refusal.proofs.Calls.{checked}
 use Rattle.counting.specs.Count.{countRefusal}
 use Rattle.counting.proofs.CountAnswers.{count-call, refused, done}
 use borrow.Author.Needs.{needs}
@@ -17,13 +17,13 @@ returns c =
 nothing : (c : tie.Else1) → countRefusal (c .before .before .before .args .cells) .number ≡ 0
 nothing c = same-number (c .before .before .judged .ensures) (c .if1 .left)
 
-counted-requires : tie.Need-counted-requires
-counted-requires c κs = checked (count-call (c .before .before .before .args .cells)) (nothing c)
-
 returns-2 : tie.Need-returns-2
 returns-2 c =
     let go = c .before in
     done (go .before .before .before .args .cells) (nothing go) (c .counted .result) (c .counted .ensures)
 
 pub count-spec : {M : Type 1} → statement M
-count-spec = tie.close (tie.spec (λ c κs. search needs) returns counted-requires returns-2)
+count-spec =
+    tie.close
+    (tie.spec (λ c κs. search needs) returns
+    (λ c κs. checked (count-call (c .before .before .before .args .cells)) (nothing c)) returns-2)

@@ -12,35 +12,14 @@ Inv-loop cells w₀ l₀ d₀ turn₀ w l d turn = Turning cells w l d turn
 abbrev μ-loop : tie.MeasureT-loop
 μ-loop cells w₀ l₀ d₀ turn₀ w l d turn = cells - turn
 
-loop-holds : tie.Need-loop-holds Inv-loop μ-loop
-loop-holds c = begins (c .args .cells)
-
 -- each sum of a turn is part of w + l + d, or that sum itself
 small : (c : tie.At-loop Inv-loop μ-loop) → c .loop .w + c .loop .l + c .loop .d ≤ 368206551266960
 small c = sum-small (c .before .args .cells) (c .loop .w) (c .loop .l) (c .loop .d) (c .loop .turn) (c .loop .inv) (c .before .pre)
-
-add-next-l : tie.Need-add-next-l Inv-loop μ-loop
-add-next-l c = let s = small (c .before) in omega arith
-
-add-next-d : tie.Need-add-next-d Inv-loop μ-loop
-add-next-d c = let s = small (c .before) in omega arith
-
-add-w : tie.Need-add-w Inv-loop μ-loop
-add-w c = let s = small (c .before) in omega arith
-
-add-w-2 : tie.Need-add-w-2 Inv-loop μ-loop
-add-w-2 c = let s = small (c .before) in omega arith
 
 loop-again : tie.Need-loop-again Inv-loop μ-loop
 loop-again c =
     let l = c .before in
     turns (l .before .args .cells) (l .loop .w) (l .loop .l) (l .loop .d) (l .loop .turn) (l .loop .inv) (c .loop-test .taken)
-
-add-result : tie.Need-add-result Inv-loop μ-loop
-add-result c = let s = small (c .before) in omega arith
-
-add-result-2 : tie.Need-add-result-2 Inv-loop μ-loop
-add-result-2 c = let s = small (c .before) in omega arith
 
 returns : tie.Need-returns Inv-loop μ-loop
 returns c =
@@ -50,5 +29,7 @@ returns c =
 pub counted-spec : {M : Type 1} → statement M
 counted-spec =
     tie.close
-    (tie.spec Inv-loop μ-loop loop-holds add-next-l add-next-d add-w add-w-2 (λ c. search needs)
-    (λ c. search needs) loop-again add-result add-result-2 returns)
+    (tie.spec Inv-loop μ-loop (λ c. begins (c .args .cells)) (λ c. let s = small (c .before) in omega arith)
+    (λ c. let s = small (c .before) in omega arith) (λ c. let s = small (c .before) in omega arith)
+    (λ c. let s = small (c .before) in omega arith) (λ c. search needs) (λ c. search needs) loop-again
+    (λ c. let s = small (c .before) in omega arith) (λ c. let s = small (c .before) in omega arith) returns)

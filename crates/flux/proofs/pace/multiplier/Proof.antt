@@ -6,9 +6,6 @@ use borrow.Author.Needs.{needs}
 use Rattle.flux.proofs.pace.multiplier.Statement.{statement}
 use Rattle.flux.proofs.pace.multiplier.Tie as tie
 
-cast-result : tie.Need-cast-result
-cast-result c = multiplier-fits (c .args .x) (c .args .divisor) (c .pre .0) (c .pre .1)
-
 returns : tie.Need-returns
 unfolding multiplier
 returns c = refl
@@ -16,4 +13,5 @@ returns c = refl
 pub multiplier-spec : {M : Type 1} → statement M
 multiplier-spec =
     tie.close
-    (tie.spec (λ c. search needs) (λ c. search needs) (λ c. search needs) (λ c. search needs) cast-result returns)
+    (tie.spec (λ c. search needs) (λ c. search needs) (λ c. search needs) (λ c. search needs)
+    (λ c. multiplier-fits (c .args .x) (c .args .divisor) (c .pre .0) (c .pre .1)) returns)

@@ -19,19 +19,10 @@ loop-holds c =
     let s = c .before .before in
     begins (s .args .cells .now) (s .args .out .now) (s .pre .1)
 
-density-requires : tie.Need-density-requires Inv-loop μ-loop
-density-requires c κs = c .before .before .before .before .before .pre .0 (c .before .before .loop .i)
-
-slice-write-out : tie.Need-slice-write-out Inv-loop μ-loop
-slice-write-out c = let l = c .before .before .before .loop .inv .long in omega arith
-
 loop-again : tie.Need-loop-again Inv-loop μ-loop
 loop-again c =
     let l = c .before .before .before in
     rw (c .density .ensures) (turns (l .before .before .before .args .cells .now) (l .loop .out) (l .loop .i) (l .loop .inv) (c .before .before .loop-test .taken))
-
-same-length : tie.Need-same-length Inv-loop μ-loop
-same-length c = c .before .loop .inv .long ∙ sym (c .before .before .before .before .pre .1)
 
 returns : tie.Need-returns Inv-loop μ-loop
 returns c = ends (c .before .before .before .before .args .cells .now) (c .before .loop .out) (c .before .loop .i) (c .before .loop .inv) (c .loop-test .left)
@@ -39,5 +30,7 @@ returns c = ends (c .before .before .before .before .args .cells .now) (c .befor
 pub copy-spec : {M : Type 1} → statement M
 copy-spec =
     tie.close
-    (tie.spec Inv-loop μ-loop loop-holds (λ c. search needs) (λ c. search needs) density-requires (λ c. search needs)
-    slice-write-out (λ c. search needs) (λ c. search needs) loop-again same-length returns)
+    (tie.spec Inv-loop μ-loop loop-holds (λ c. search needs) (λ c. search needs)
+    (λ c κs. c .before .before .before .before .before .pre .0 (c .before .before .loop .i)) (λ c. search needs)
+    (λ c. let l = c .before .before .before .loop .inv .long in omega arith) (λ c. search needs) (λ c. search needs)
+    loop-again (λ c. c .before .loop .inv .long ∙ sym (c .before .before .before .before .pre .1)) returns)

@@ -4,8 +4,5 @@ use borrow.Author.Needs.{needs}
 use Rattle.forecast.proofs.forecasting.carried.Statement.{statement}
 use Rattle.forecast.proofs.forecasting.carried.Tie as tie
 
-returns : tie.Need-returns
-returns c = refl
-
 pub carried-spec : {M : Type 1} → statement M
-carried-spec = tie.close (tie.spec (λ c. search needs) (λ c. search needs) returns)
+carried-spec = tie.close (tie.spec (λ c. search needs) (λ c. search needs) (λ c. refl))

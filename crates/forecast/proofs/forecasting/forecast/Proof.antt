@@ -1,4 +1,4 @@
--- `forecast::forecast` meets its contract: refused by the rows before 19, nothing is written; where 19 may hold, the run is made aside; else in the output.
+-- `forecast::forecast` meets its contract: refused by the checks before 19, nothing is written; where 19 may hold, the run is made aside; else in the output.
 use mathlib.Core.Path.{_∙_, sym, subst}
 use Prim.Native.Nat.{ℕ, _*_}
 use lib.ListN.{length}
@@ -6,7 +6,7 @@ use lib.Seq.{length-take-le}
 use borrow.Author.Needs.{needs}
 use Rattle.choice.specs.Choice.{or}
 use Rattle.road.specs.Ceilings.{jamCeiling}
-use Rattle.road.proofs.Parts.{same-number}
+use Rattle.refusal.proofs.Parts.{same-number}
 use Rattle.forecast.specs.Forecast.{InputChecked, Fits, Forecasts}
 use Rattle.forecast.proofs.Checked.{input-checked, input-stands, fits-by}
 use Rattle.forecast.proofs.Answers.{forecast-refused, forecast-done, most-fits}
@@ -23,7 +23,7 @@ returns c =
     (j .judged .result) (j .judged .ensures) (c .if1 .taken))
     (c .if1 .taken)
 
--- past the branch the rows before 19 refuse nothing
+-- past the branch the checks before 19 refuse nothing
 checked : (c : tie.Else1) → let s = c .before .before .before .before .before .before .before .before in
     InputChecked (s .args .road) (s .args .caps .now) (s .args .cells .now) (s .args .upstream .now) (s .args .downstream .now) (s .args .horizon) (length (s .args .out .now))
 checked c =
@@ -38,9 +38,6 @@ by-ends c =
     let s = c .before .before .before .before .before .before .before .before in
     subst (λ (t : ℕ). InputChecked (s .args .road) (s .args .caps .now) (s .args .cells .now) (s .args .upstream .now) (s .args .downstream .now) t (length (s .args .out .now)))
     (sym (checked c .ups-long)) (checked c)
-
-array-borrow-prefix-work : tie.Need-array-borrow-prefix-work
-array-borrow-prefix-work c = checked (c .before .before .before .before) .cells-high
 
 -- the list lent is as long as the cells, which are few enough for it
 slice-aggregate-ran-aside : tie.Need-slice-aggregate-ran-aside
@@ -59,9 +56,6 @@ returns-2 c =
     subst (λ (t : ℕ). Forecasts (s .args .road) (s .args .caps .now) (s .args .cells .now) (s .args .upstream .now) (s .args .downstream .now) t (s .args .totals) (s .args .out .now) (aside .ran-aside .last .1 .1 .1 .1 .1 .1 .1 .0) (aside .ran-aside .result))
     (checked go .ups-long) (aside .ran-aside .ensures)
 
-ran-requires : tie.Need-ran-requires
-ran-requires c κs = by-ends (c .before .before .before .before .before)
-
 -- there is room for the most that the steps can move, and so for what they moved
 fits : (c : tie.After-ran) → let s = c .before .before .before .before .before .before .before .before .before .before .before .before .before .before in Fits (s .args .totals) (c .ran .result)
 fits c =
@@ -75,9 +69,6 @@ fits c =
     (fits-by (s .args .totals) (record { entered = most; left = most })
     (sym (e .either .ensures ∙ λ i. or (e .before .before .would-pass .ensures i) (e .before .would-pass2 .ensures i)) ∙ test .if2 .left))
 
-carried-requires : tie.Need-carried-requires
-carried-requires c κs = fits (c .before .before)
-
 returns-3 : tie.Need-returns-3
 returns-3 c =
     let ran = c .before .before .before in
@@ -89,5 +80,8 @@ returns-3 c =
 pub forecast-spec : {M : Type 1} → statement M
 forecast-spec =
     tie.close
-    (tie.spec (λ c κs. search needs) returns (λ c. search needs) (λ c. search needs) (λ c κs. search needs) (λ c κs. search needs) (λ c κs. search needs)
-    array-borrow-prefix-work slice-aggregate-ran-aside ran-aside-requires (λ c. search needs) returns-2 ran-requires carried-requires (λ c. search needs) returns-3)
+    (tie.spec (λ c κs. search needs) returns (λ c. search needs) (λ c. search needs) (λ c κs. search needs)
+    (λ c κs. search needs) (λ c κs. search needs) (λ c. checked (c .before .before .before .before) .cells-high)
+    slice-aggregate-ran-aside ran-aside-requires (λ c. search needs) returns-2
+    (λ c κs. by-ends (c .before .before .before .before .before)) (λ c κs. fits (c .before .before))
+    (λ c. search needs) returns-3)

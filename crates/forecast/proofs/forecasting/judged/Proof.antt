@@ -1,12 +1,12 @@
--- `forecast::judged` meets its contract: a refusal of the shape stands, and below it the values are judged row by row.
+-- `forecast::judged` meets its contract: a refusal of the shape stands, and below it the values are judged check by check.
 use mathlib.Core.Path.{_∙_, ap}
 use Prim.Native.Nat.{ℕ, _+_, _≤_}
 use native.Mathlib.Omega.{arith}
 use lib.Dec.{ltb}
 use lib.ListN.{length}
 use Rattle.road.specs.Ceilings.{cellsCeiling, horizonCeiling}
-use Rattle.road.proofs.Parts.{same-number}
-use Rattle.road.proofs.Table.{next-row}
+use Rattle.refusal.proofs.Parts.{same-number}
+use Rattle.refusal.proofs.Table.{next-check}
 use Rattle.forecast.specs.Forecast.{shapeRefusal, inputRefusal}
 use Rattle.forecast.proofs.Checked.{shape-stands, shape-short}
 use borrow.Author.Needs.{needs}
@@ -60,11 +60,11 @@ returns-2 c =
     let cell = up .before in
     let s = cell .before .before .before .before .before .before .before .before in
     c .or-if3 .ensures
-    ∙ next-row 11
+    ∙ next-check 11
     (c .before .or-if2 .ensures
-    ∙ next-row 10
+    ∙ next-check 10
     (c .before .before .or-if .ensures
-    ∙ next-row 9 (cell .before .before .before .judged-shape .ensures)
+    ∙ next-check 9 (cell .before .before .before .judged-shape .ensures)
     (ap (λ (k : ℕ). ltb k (length (s .args .cells .now))) (cell .first-above .ensures .at))
     (ap (λ (k : ℕ). k + 1) (cell .first-above .ensures .at)))
     (ap (λ (k : ℕ). ltb k (length (s .args .upstream .now))) (up .first-above2 .ensures .at))

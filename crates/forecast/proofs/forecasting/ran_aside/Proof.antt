@@ -4,7 +4,7 @@ use lib.ListN.{length}
 use borrow.Author.Needs.{needs}
 use Rattle.choice.specs.Choice.{or}
 use Rattle.scheme.proofs.Promises.{roundRun-length, round-range}
-use Rattle.forecast.specs.Forecast.{totalRow, Fits}
+use Rattle.forecast.specs.Forecast.{totalCheck, Fits}
 use Rattle.forecast.proofs.Checked.{with-output, fits-by}
 use Rattle.forecast.proofs.Answers.{total-refused, forecast-done}
 use Rattle.forecast.proofs.Calling.{in-range}
@@ -13,7 +13,7 @@ use Rattle.forecast.proofs.forecasting.ran_aside.Tie as tie
 
 -- what is tested is 19's condition
 tested : (c : tie.After-either) → let ran = c .before .before .before .before .before in let s = ran .before .before .before .before .before .before .before .before in
-    c .either .result ≡ totalRow (s .args .totals) (ran .ran .result) .condition
+    c .either .result ≡ totalCheck (s .args .totals) (ran .ran .result) .condition
 tested c = c .either .ensures ∙ λ i. or (c .before .before .would-pass .ensures i) (c .before .would-pass2 .ensures i)
 
 returns : tie.Need-returns
@@ -48,9 +48,6 @@ copy-requires c κs =
       ok .output-long ∙ sym (ap length (ran .ran .ensures .cells) ∙ roundRun-length (s .args .road) (s .args .caps .now) (s .args .upstream .now) (s .args .downstream .now) (s .args .cells .now)),
     )
 
-carried-requires : tie.Need-carried-requires
-carried-requires c κs = fits (c .before .before .before .before .before)
-
 returns-2 : tie.Need-returns-2
 returns-2 c =
     let copied = c .before .before .before in
@@ -64,4 +61,5 @@ pub ran-aside-spec : {M : Type 1} → statement M
 ran-aside-spec =
     tie.close
     (tie.spec ran-requires (λ c κs. search needs) (λ c κs. search needs) (λ c κs. search needs) (λ c. search needs)
-    returns copy-requires carried-requires (λ c. search needs) (λ c. search needs) returns-2)
+    returns copy-requires (λ c κs. fits (c .before .before .before .before .before)) (λ c. search needs)
+    (λ c. search needs) returns-2)

@@ -17,8 +17,7 @@ room-and-sum total own fits = by (decLe (total + own) largest)
     by (yes h) = le-ltb (largest - total) own (omega arith) ∙ sym (le-ltb largest (total + own) h)
     by (no h) = lt-ltb (largest - total) own (omega arith) ∙ sym (lt-ltb largest (total + own) (omega arith))
 
-returns : tie.Need-returns
-returns c = room-and-sum (c .args .total) (c .args .more) (search needs)
-
 pub would-pass-spec : {M : Type 1} → statement M
-would-pass-spec = tie.close (tie.spec (λ c. search needs) returns)
+would-pass-spec =
+    tie.close
+    (tie.spec (λ c. search needs) (λ c. room-and-sum (c .args .total) (c .args .more) (search needs)))

@@ -1,8 +1,8 @@
 -- `forecast::judged` of the settling run meets its contract: a refusal of the shape stands, and below it the cells and the pair are judged.
 use lib.ListN.{length}
-use Rattle.road.proofs.Parts.{same-number, part-goes-on}
-use Rattle.checks.specs.Rows.{pairRows}
-use Rattle.forecast.specs.Settle.{settleShapeRows, settleShapeRefusal, settleRefusal}
+use Rattle.refusal.proofs.Parts.{same-number, part-goes-on}
+use Rattle.checks.specs.Checks.{pairChecks}
+use Rattle.forecast.specs.Settle.{settleShapeChecks, settleShapeRefusal, settleRefusal}
 use Rattle.forecast.proofs.Checked.{settle-shape-stands, settle-shape-short}
 use borrow.Author.Needs.{needs}
 use Rattle.forecast.proofs.settling.judged.Statement.{statement}
@@ -28,8 +28,8 @@ unfolding settleShapeRefusal settleRefusal
 returns-2 c =
     let j = c .before .before .before in
     let s = j .before .before .before in
-    part-goes-on (settleShapeRows (s .args .road) (length (s .args .caps .now)) (length (s .args .cells .now)) (s .args .horizon) (s .args .out))
-    (pairRows (s .args .road) (s .args .cells .now) (s .args .up) (s .args .down)) (j .judged-shape .ensures) (c .or-pair .ensures)
+    part-goes-on (settleShapeChecks (s .args .road) (length (s .args .caps .now)) (length (s .args .cells .now)) (s .args .horizon) (s .args .out))
+    (pairChecks (s .args .road) (s .args .cells .now) (s .args .up) (s .args .down)) (j .judged-shape .ensures) (c .or-pair .ensures)
 
 pub judged-spec : {M : Type 1} → statement M
 judged-spec = tie.close (tie.spec (λ c κs. search needs) returns or-pair-requires returns-2)

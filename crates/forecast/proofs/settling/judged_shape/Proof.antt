@@ -1,7 +1,7 @@
--- `forecast::judged_shape` of the settling run meets its contract: below the road's rows, row by row.
-use mathlib.Core.Path.{_∙_, refl}
+-- `forecast::judged_shape` of the settling run meets its contract: below the road's checks, check by check.
+use mathlib.Core.Path.{_∙_}
 use Rattle.road.specs.Judgement.{roadRefusal}
-use Rattle.road.proofs.Table.{next-row}
+use Rattle.refusal.proofs.Table.{next-at-0}
 use Rattle.forecast.specs.Settle.{settleShapeRefusal}
 use borrow.Author.Needs.{needs}
 use Rattle.forecast.proofs.settling.judged_shape.Statement.{statement}
@@ -15,19 +15,11 @@ returns c =
     let output = caps .before in
     let horizon = output .before in
     let cells = horizon .before in
-    c .or-if4 .ensures
-    ∙ next-row 20
-    (c .before .or-if3 .ensures
-    ∙ next-row 8
-    (c .before .before .or-if2 .ensures
-    ∙ next-row 6
-    (c .before .before .before .or-if .ensures ∙ next-row 5 (judged .judged .ensures) (cells .bad-cells .ensures) refl)
-    (horizon .bad-horizon .ensures)
-    refl)
-    (output .bad-output .ensures)
-    refl)
-    (caps .bad-caps .ensures)
-    refl
+    c .or-if4 .ensures ∙ next-at-0 20
+    (c .before .or-if3 .ensures ∙ next-at-0 8
+    (c .before .before .or-if2 .ensures ∙ next-at-0 6
+    (c .before .before .before .or-if .ensures ∙ next-at-0 5 (judged .judged .ensures) (cells .bad-cells .ensures))
+    (horizon .bad-horizon .ensures)) (output .bad-output .ensures)) (caps .bad-caps .ensures)
 
 pub judged-shape-spec : {M : Type 1} → statement M
 judged-shape-spec =

@@ -1,8 +1,8 @@
 -- `forecast::settle` meets its contract: refused, nothing is written; otherwise the copy is settled.
 use mathlib.Core.Path.{_≡_}
 use lib.ListN.{length}
-use Rattle.road.proofs.Parts.{same-number}
-use Rattle.road.proofs.Calls as Calls
+use Rattle.refusal.proofs.Parts.{same-number}
+use Rattle.refusal.proofs.Calls as Calls
 use Rattle.forecast.specs.Settle.{settleRefusal, SettleChecked}
 use Rattle.forecast.proofs.Checked.{settle-call}
 use Rattle.forecast.proofs.Answers.{settle-refused}
@@ -33,9 +33,6 @@ copy-requires c κs =
     let ok = checked (c .before) in
     (in-range (s .args .cells .now) (ok .accepted) (ok .cells-below), ok .output-long)
 
-of-requires : tie.Need-of-requires
-of-requires c κs = checked (c .before .before .before .before) .accepted
-
 settle-requires : tie.Need-settle-requires
 settle-requires c κs =
     let copied = c .before .before .before .before in
@@ -57,5 +54,5 @@ returns-2 c =
 pub settle-spec : {M : Type 1} → statement M
 settle-spec =
     tie.close
-    (tie.spec (λ c κs. search needs) returns copy-requires of-requires settle-requires (λ c. search needs)
-    returns-2)
+    (tie.spec (λ c κs. search needs) returns copy-requires
+    (λ c κs. checked (c .before .before .before .before) .accepted) settle-requires (λ c. search needs) returns-2)

@@ -21,7 +21,7 @@ cast-t10 c =
     let s = k .before .before .before in
     let faces = word-length (s .args .road) (s .args .up) (s .args .down) (s .args .cells .now) in
     let long = s .pre .word-long in
-    let few = s .pre .cells-high in
+    let few = s .pre .state .cells-high in
     omega (
       arith,
       k .first-misfit .ensures,

@@ -16,13 +16,13 @@ abbrev μ-loop : tie.MeasureT-loop
 loop-holds : tie.Need-loop-holds Inv-loop μ-loop
 loop-holds c =
     let s = c .before .before in
-    begins (s .args .road) (s .args .up) (s .args .down) (s .args .cells .now) (s .args .word .now) (s .pre .word-long) (s .pre .up-below)
+    begins (s .args .road) (s .args .up) (s .args .down) (s .args .cells .now) (s .args .word .now) (s .pre .word-long) (s .pre .state .up-below)
 
 letter-requires : tie.Need-letter-requires Inv-loop μ-loop
 letter-requires c κs =
     let l = c .before .before in
     let s = l .before .before .before in
-    (s .pre .accepted, (l .loop .inv .below, s .pre .cells-below (l .loop .i)))
+    (s .pre .state .accepted, (l .loop .inv .below, s .pre .state .cells-below (l .loop .i)))
 
 shared-slice-read-if1 : tie.Need-shared-slice-read-if1 Inv-loop μ-loop
 shared-slice-read-if1 c =
@@ -46,13 +46,13 @@ loop-again c =
     let l = test .before in
     let s = l .before .before .before in
     turns (s .args .road) (s .args .up) (s .args .down) (s .args .cells .now) (s .args .word .now) (s .pre .word-long)
-    (l .loop .left) (l .loop .i) (l .loop .inv) (f .letter .result) (test .loop-test .taken) (f .letter .ensures) (s .pre .cells-below) (c .if1 .left)
+    (l .loop .left) (l .loop .i) (l .loop .inv) (f .letter .result) (test .loop-test .taken) (f .letter .ensures) (s .pre .state .cells-below) (c .if1 .left)
 
 letter-requires-2 : tie.Need-letter-requires-2 Inv-loop μ-loop
 letter-requires-2 c κs =
     let l = c .before in
     let s = l .before .before .before in
-    (s .pre .accepted, (l .loop .inv .below, s .pre .down-below))
+    (s .pre .state .accepted, (l .loop .inv .below, s .pre .state .down-below))
 
 shared-slice-read-if2 : tie.Need-shared-slice-read-if2 Inv-loop μ-loop
 shared-slice-read-if2 c =
@@ -72,7 +72,7 @@ returns-2 c =
 add-result : tie.Need-add-result Inv-loop μ-loop
 add-result c =
     let l = c .before .before .before .before in
-    let few = l .before .before .before .pre .cells-high in
+    let few = l .before .before .before .pre .state .cells-high in
     let within = l .loop .inv .inside in
     omega arith
 

@@ -1,7 +1,7 @@
 -- `modes::fit` meets its contract: refused by the table, otherwise compared.
 use mathlib.Core.Path.{_≡_}
-use Rattle.road.proofs.Parts.{same-number}
-use Rattle.road.proofs.Calls.{checked}
+use Rattle.refusal.proofs.Parts.{same-number}
+use Rattle.refusal.proofs.Calls.{checked}
 use Rattle.modes.specs.Judging.{fitRefusal}
 use Rattle.modes.proofs.FitAnswers.{fit-call, refused, done}
 use borrow.Author.Needs.{needs}

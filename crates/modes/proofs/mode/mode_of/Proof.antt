@@ -35,5 +35,4 @@ returns-7 c =
     simp (ne-eqb _ 0 (c .before .before .before .if1 .left), ne-eqb _ 1 (c .before .before .if3 .left), ne-eqb _ 0 (c .before .if5 .left), ne-eqb _ 1 (c .if6 .left))
 
 pub mode-of-spec : {M : Type 1} → statement M
-mode-of-spec =
-    tie.close (tie.spec returns returns-2 returns-3 returns-4 returns-5 returns-6 returns-7)
+mode-of-spec = tie.close (tie.spec returns returns-2 returns-3 returns-4 returns-5 returns-6 returns-7)

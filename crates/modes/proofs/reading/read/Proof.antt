@@ -1,7 +1,7 @@
 -- `modes::read` meets its contract: refused, nothing is written; otherwise the letters, then the modes of the letters, then the counts of the modes and the queued cells.
 use mathlib.Core.Path.{_≡_}
 use lib.ListN.{length}
-use Rattle.road.proofs.Parts.{same-number}
+use Rattle.refusal.proofs.Parts.{same-number}
 use Rattle.modes.specs.Judging.{readRefusal}
 use Rattle.modes.proofs.ReadAnswers.{refused, checked, word-long, few-modes, done}
 use borrow.Author.Needs.{needs}
@@ -25,7 +25,7 @@ write-letters-requires c κs =
     let go = c .before in
     let s = go .before .before .before .before .before .before in
     let k = checked (s .args .road) (s .args .cells .now) (s .args .up) (s .args .down) (s .args .letters .now) (s .args .modes .now) (nothing go) in
-    (k .accepted, (k .cells-below, (k .up-below, (k .down-below, k .letters-long))))
+    (k .state .accepted, (k .state .cells-below, (k .state .up-below, (k .state .down-below, k .letters-long))))
 
 write-modes-requires : tie.Need-write-modes-requires
 write-modes-requires c κs =
@@ -49,7 +49,7 @@ queued-requires : tie.Need-queued-requires
 queued-requires c κs =
     let go = c .before .before .before .before .before .before .before .before .before .before .before in
     let s = go .before .before .before .before .before .before in
-    checked (s .args .road) (s .args .cells .now) (s .args .up) (s .args .down) (s .args .letters .now) (s .args .modes .now) (nothing go) .cells-high
+    checked (s .args .road) (s .args .cells .now) (s .args .up) (s .args .down) (s .args .letters .now) (s .args .modes .now) (nothing go) .state .cells-high
 
 returns-2 : tie.Need-returns-2
 returns-2 c =

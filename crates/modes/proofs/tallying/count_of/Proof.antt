@@ -14,9 +14,6 @@ Inv-loop mode modes count₀ i₀ count i = Counting (countOf mode) modes count 
 abbrev μ-loop : tie.MeasureT-loop
 μ-loop mode modes count₀ i₀ count i = length modes - i
 
-loop-holds : tie.Need-loop-holds Inv-loop μ-loop
-loop-holds c = begins (countOf (c .before .args .mode)) (c .before .args .modes .now)
-
 loop-again : tie.Need-loop-again Inv-loop μ-loop
 loop-again c =
     let l = c .before .before .before in
@@ -34,5 +31,6 @@ returns c = let l = c .before in ends (modes-counted (l .before .before .args .m
 pub count-of-spec : {M : Type 1} → statement M
 count-of-spec =
     tie.close
-    (tie.spec Inv-loop μ-loop loop-holds (λ c. search needs) (λ c κs. search needs) add-count
-    (λ c. search needs) (λ c. search needs) loop-again cast-result returns)
+    (tie.spec Inv-loop μ-loop (λ c. begins (countOf (c .before .args .mode)) (c .before .args .modes .now))
+    (λ c. search needs) (λ c κs. search needs) add-count (λ c. search needs) (λ c. search needs) loop-again
+    cast-result returns)

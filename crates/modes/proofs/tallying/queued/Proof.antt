@@ -14,9 +14,6 @@ Inv-loop critical cells queued₀ cell₀ queued cell = Counting (queuedOf criti
 abbrev μ-loop : tie.MeasureT-loop
 μ-loop critical cells queued₀ cell₀ queued cell = length cells - cell
 
-loop-holds : tie.Need-loop-holds Inv-loop μ-loop
-loop-holds c = begins (queuedOf (c .before .args .critical)) (c .before .args .cells .now)
-
 loop-again : tie.Need-loop-again Inv-loop μ-loop
 loop-again c =
     let l = c .before .before .before in
@@ -34,5 +31,6 @@ returns c = let l = c .before in ends (cells-counted (l .before .before .args .c
 pub queued-spec : {M : Type 1} → statement M
 queued-spec =
     tie.close
-    (tie.spec Inv-loop μ-loop loop-holds (λ c. search needs) (λ c. search needs) (λ c κs. search needs) add-queued
-    (λ c. search needs) (λ c. search needs) loop-again cast-result returns)
+    (tie.spec Inv-loop μ-loop (λ c. begins (queuedOf (c .before .args .critical)) (c .before .args .cells .now))
+    (λ c. search needs) (λ c. search needs) (λ c κs. search needs) add-queued (λ c. search needs)
+    (λ c. search needs) loop-again cast-result returns)

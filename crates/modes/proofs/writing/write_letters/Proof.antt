@@ -25,9 +25,6 @@ letter-requires c κs =
     let s = l .before .before .before in
     (s .pre .0, (l .loop .inv .left-below, s .pre .1 .0 (l .loop .i)))
 
-slice-write-letters : tie.Need-slice-write-letters Inv-loop μ-loop
-slice-write-letters c = let l = c .before .before .before .loop .inv .long in omega arith
-
 loop-again : tie.Need-loop-again Inv-loop μ-loop
 loop-again c =
     let l = c .before .before .before in
@@ -61,5 +58,5 @@ pub write-letters-spec : {M : Type 1} → statement M
 write-letters-spec =
     tie.close
     (tie.spec Inv-loop μ-loop loop-holds (λ c. search needs) (λ c. search needs) letter-requires
-    slice-write-letters (λ c. search needs) (λ c. search needs) loop-again letter-requires-2
-    slice-write-letters-2 same-length returns)
+    (λ c. let l = c .before .before .before .loop .inv .long in omega arith) (λ c. search needs) (λ c. search needs)
+    loop-again letter-requires-2 slice-write-letters-2 same-length returns)

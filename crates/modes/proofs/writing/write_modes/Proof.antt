@@ -16,15 +16,6 @@ abbrev μ-loop : tie.MeasureT-loop
 loop-holds : tie.Need-loop-holds Inv-loop μ-loop
 loop-holds c = let s = c .before .before in begins (s .args .word .now) (s .args .modes .now) (s .pre)
 
-shared-slice-read-mode-of : tie.Need-shared-slice-read-mode-of Inv-loop μ-loop
-shared-slice-read-mode-of c = let l = c .before .before .loop .inv .long in omega arith
-
-shared-slice-read-mode-of-2 : tie.Need-shared-slice-read-mode-of-2 Inv-loop μ-loop
-shared-slice-read-mode-of-2 c = let l = c .before .before .before .loop .inv .long in omega arith
-
-loop-less : tie.Need-loop-less Inv-loop μ-loop
-loop-less c = simp length-set (omega arith)
-
 loop-again : tie.Need-loop-again Inv-loop μ-loop
 loop-again c =
     let l = c .before .before .before .before in
@@ -44,6 +35,7 @@ returns c =
 pub write-modes-spec : {M : Type 1} → statement M
 write-modes-spec =
     tie.close
-    (tie.spec Inv-loop μ-loop loop-holds shared-slice-read-mode-of (λ c. search needs)
-    shared-slice-read-mode-of-2 (λ c κs. search needs) (λ c. search needs) (λ c. search needs) loop-less
-    loop-again same-length returns)
+    (tie.spec Inv-loop μ-loop loop-holds (λ c. let l = c .before .before .loop .inv .long in omega arith)
+    (λ c. search needs) (λ c. let l = c .before .before .before .loop .inv .long in omega arith)
+    (λ c κs. search needs) (λ c. search needs) (λ c. search needs) (λ c. simp length-set (omega arith)) loop-again
+    same-length returns)

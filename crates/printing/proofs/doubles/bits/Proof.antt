@@ -4,8 +4,7 @@ use borrow.Author.Needs.{needs}
 use Rattle.printing.proofs.doubles.bits.Statement.{statement}
 use Rattle.printing.proofs.doubles.bits.Tie as tie
 
-float-to-bits-result : tie.Need-float-to-bits-result
-float-to-bits-result c = equals-itself (c .before .args .x) (c .if1 .left)
-
 pub bits-spec : {M : Type 1} → statement M
-bits-spec = tie.close (tie.spec (λ c. search needs) float-to-bits-result (λ c. search needs))
+bits-spec =
+    tie.close
+    (tie.spec (λ c. search needs) (λ c. equals-itself (c .before .args .x) (c .if1 .left)) (λ c. search needs))

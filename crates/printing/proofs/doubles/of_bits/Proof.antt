@@ -5,14 +5,9 @@ use borrow.Author.Needs.{needs}
 use Rattle.printing.proofs.doubles.of_bits.Statement.{statement}
 use Rattle.printing.proofs.doubles.of_bits.Tie as tie
 
-float-from-bits-result : tie.Need-float-from-bits-result
-float-from-bits-result c = digits-clear (c .before .args .n) (eq-eqb _ _ (c .if1 .taken))
-
-float-from-bits-result-2 : tie.Need-float-from-bits-result-2
-float-from-bits-result-2 c = exponent-clear (c .before .before .args .n) (ne-eqb _ _ (c .if2 .left))
-
 pub of-bits-spec : {M : Type 1} → statement M
 of-bits-spec =
     tie.close
-    (tie.spec float-from-bits-result (λ c. search needs) (λ c. search needs) float-from-bits-result-2
+    (tie.spec (λ c. digits-clear (c .before .args .n) (eq-eqb _ _ (c .if1 .taken))) (λ c. search needs)
+    (λ c. search needs) (λ c. exponent-clear (c .before .before .args .n) (ne-eqb _ _ (c .if2 .left)))
     (λ c. search needs))

@@ -13,8 +13,4 @@ truncating-f64-to-i64-requires c κs = (subst T (sym (c .before .if1 .taken)) tt
 pub truncated-spec : {M : Type 1} → statement M
 truncated-spec =
     tie.close
-    (tie.spec
-    truncating-f64-to-i64-requires
-    (λ c. search needs)
-    (λ c. search needs)
-    (λ c. search needs))
+    (tie.spec truncating-f64-to-i64-requires (λ c. search needs) (λ c. search needs) (λ c. search needs))

@@ -14,18 +14,9 @@ Inv-loop name out₀ i₀ out i = (length out ≡ length out₀) × (i ≤ lengt
 abbrev μ-loop : tie.MeasureT-loop
 μ-loop name out₀ i₀ out i = length name - i
 
-returns : tie.Need-returns Inv-loop μ-loop
-returns c = counts _ _ (search needs)
-
-loop-again : tie.Need-loop-again Inv-loop μ-loop
-loop-again c = (search needs, simp length-set (omega arith))
-
-returns-2 : tie.Need-returns-2 Inv-loop μ-loop
-returns-2 c = counts _ _ (search needs)
-
 pub made-visible-spec : {M : Type 1} → statement M
 made-visible-spec =
     tie.close
-    (tie.spec Inv-loop μ-loop (λ c. search needs) (λ c. search needs) returns (λ c. search needs)
-    (λ c κs. search needs) (λ c. search needs) (λ c. search needs) (λ c. search needs) loop-again
-    (λ c. search needs) returns-2)
+    (tie.spec Inv-loop μ-loop (λ c. search needs) (λ c. search needs) (λ c. counts _ _ (search needs))
+    (λ c. search needs) (λ c κs. search needs) (λ c. search needs) (λ c. search needs) (λ c. search needs)
+    (λ c. (search needs, simp length-set (omega arith))) (λ c. search needs) (λ c. counts _ _ (search needs)))

@@ -13,20 +13,8 @@ lower c = turn w64 (c .before .args .n) (lit≤ tt) (c .before .fits .n) (c .if1
 cast-result : tie.Need-cast-result
 cast-result c = plain w64 (c .before .args .n) (lit≤ tt) (c .before .fits .n) (c .if1 .taken) .0
 
-add-result : tie.Need-add-result
-add-result c = lower c .0
-
-sub-result : tie.Need-sub-result
-sub-result c = lower c .1
-
-cast-result-2 : tie.Need-cast-result-2
-cast-result-2 c = lower c .2
-
-add-result-2 : tie.Need-add-result-2
-add-result-2 c = lower c .3
-
 pub size-spec : {M : Type 1} → statement M
 size-spec =
     tie.close
-    (tie.spec cast-result add-result sub-result cast-result-2 add-result-2 (λ c. search needs)
-    (λ c. search needs))
+    (tie.spec cast-result (λ c. lower c .0) (λ c. lower c .1) (λ c. lower c .2) (λ c. lower c .3)
+    (λ c. search needs) (λ c. search needs))

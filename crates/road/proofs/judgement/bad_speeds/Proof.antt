@@ -9,6 +9,4 @@ returns : tie.Need-returns
 returns c = c .either .ensures ∙ ap₂ or (c .before .before .is-outside .ensures) (c .before .is-outside2 .ensures)
 
 pub bad-speeds-spec : {M : Type 1} → statement M
-bad-speeds-spec =
-    tie.close
-    (tie.spec (λ c κs. search needs) (λ c κs. search needs) (λ c κs. search needs) returns)
+bad-speeds-spec = tie.close (tie.spec (λ c κs. search needs) (λ c κs. search needs) (λ c κs. search needs) returns)

@@ -8,12 +8,6 @@ use borrow.Author.Needs.{needs}
 use Rattle.road.proofs.judgement.is_unbalanced.Statement.{statement}
 use Rattle.road.proofs.judgement.is_unbalanced.Tie as tie
 
-mul-sent : tie.Need-mul-sent
-mul-sent c = record { fits = below 32 (search needs) (search needs) }
-
-mul-received : tie.Need-mul-received
-mul-received c = record { fits = below 32 (search needs) (search needs) }
-
 returns : tie.Need-returns
 returns c =
     let r = c .before .before .before .before .args .r in
@@ -22,5 +16,6 @@ returns c =
 pub is-unbalanced-spec : {M : Type 1} → statement M
 is-unbalanced-spec =
     tie.close
-    (tie.spec (λ c. search needs) (λ c. search needs) mul-sent (λ c. search needs) (λ c κs. search needs)
-    (λ c. search needs) mul-received returns)
+    (tie.spec (λ c. search needs) (λ c. search needs)
+    (λ c. record { fits = below 32 (search needs) (search needs) }) (λ c. search needs) (λ c κs. search needs)
+    (λ c. search needs) (λ c. record { fits = below 32 (search needs) (search needs) }) returns)

@@ -1,7 +1,7 @@
--- `road::judged` meets its contract: the code goes down the rows as the table does.
-use mathlib.Core.Path.{_∙_, refl}
+-- `road::judged` meets its contract: the code goes down the checks as the table does.
+use mathlib.Core.Path.{_∙_}
 use Rattle.road.specs.Judgement.{roadRefusal}
-use Rattle.road.proofs.Table.{next-row}
+use Rattle.refusal.proofs.Table.{next-at-0}
 use borrow.Author.Needs.{needs}
 use Rattle.road.proofs.judgement.judged.Statement.{statement}
 use Rattle.road.proofs.judgement.judged.Tie as tie
@@ -14,19 +14,11 @@ returns c =
     let densities = balance .before in
     let speeds = densities .before in
     let divisor = speeds .before in
-    c .or-if4 .ensures
-    ∙ next-row 4
-    (c .before .or-if3 .ensures
-    ∙ next-row 3
-    (c .before .before .or-if2 .ensures
-    ∙ next-row 2
-    (c .before .before .before .or-if .ensures ∙ next-row 1 (none .none .ensures) (divisor .bad-divisor .ensures) refl)
-    (speeds .bad-speeds .ensures)
-    refl)
-    (densities .bad-densities .ensures)
-    refl)
-    (balance .is-unbalanced .ensures)
-    refl
+    c .or-if4 .ensures ∙ next-at-0 4
+    (c .before .or-if3 .ensures ∙ next-at-0 3
+    (c .before .before .or-if2 .ensures ∙ next-at-0 2
+    (c .before .before .before .or-if .ensures ∙ next-at-0 1 (none .none .ensures) (divisor .bad-divisor .ensures))
+    (speeds .bad-speeds .ensures)) (densities .bad-densities .ensures)) (balance .is-unbalanced .ensures)
 
 pub judged-spec : {M : Type 1} → statement M
 judged-spec =

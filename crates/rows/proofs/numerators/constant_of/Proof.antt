@@ -8,7 +8,7 @@ use mir.Syntax.{w64}
 use mir.Val.{toZ, ofZ}
 use Rattle.rows.specs.Coefficients.{entry, constantOf}
 use Rattle.rows.proofs.Sizes.{largest, product-exact-in-i64}
-use Rattle.rows.proofs.Coefficients.{asked, part-kept, critical-wave, critical-free, jam-wave, constant-sizes, first-fits, both-fit, three-kept}
+use Rattle.rows.proofs.Coefficients.{asked, part-exact, critical-wave, critical-free, jam-wave, constant-sizes, first-fits, both-fit, three-exact}
 use borrow.Author.Needs.{needs}
 use Rattle.rows.proofs.numerators.constant_of.Statement.{statement}
 use Rattle.rows.proofs.numerators.constant_of.Tie as tie
@@ -41,7 +41,7 @@ wave c =
     let s = c .before .before .before .before .before .before in
     let (ok, (low, high)) = s .pre in
     let fits = critical-wave (s .args .mode) low high (s .args .road) ok in
-    part-kept (s .args .mode) low high 4 (s .args .road .wave * s .args .road .critical) (lit< tt) fits
+    part-exact (s .args .mode) low high 4 (s .args .road .wave * s .args .road .critical) (lit< tt) fits
     (product-exact-in-i64 (c .before .before .before .before .before .product .ensures) fits) (c .before .before .before .before .weighted .ensures)
 
 free : (c : tie.After-weighted3) → let s = c .before .before .before .before .before .before in
@@ -50,7 +50,7 @@ free c =
     let s = c .before .before .before .before .before .before in
     let (ok, (low, high)) = s .pre in
     let fits = critical-free (s .args .mode) low high (s .args .road) ok in
-    part-kept (s .args .mode) low high 5 (s .args .road .free * s .args .road .critical) (lit< tt) fits
+    part-exact (s .args .mode) low high 5 (s .args .road .free * s .args .road .critical) (lit< tt) fits
     (product-exact-in-i64 (c .before .before .before .product2 .ensures) fits) (c .before .before .weighted2 .ensures)
 
 full : (c : tie.After-weighted3) → let s = c .before .before .before .before .before .before in
@@ -59,7 +59,7 @@ full c =
     let s = c .before .before .before .before .before .before in
     let (ok, (low, high)) = s .pre in
     let fits = jam-wave (s .args .mode) low high (s .args .road) ok in
-    part-kept (s .args .mode) low high 6 (s .args .road .wave * s .args .road .jam) (lit< tt) fits
+    part-exact (s .args .mode) low high 6 (s .args .road .wave * s .args .road .jam) (lit< tt) fits
     (product-exact-in-i64 (c .before .product3 .ensures) fits) (c .weighted3 .ensures)
 
 small : (c : tie.After-weighted3) → let s = c .before .before .before .before .before .before in
@@ -71,18 +71,13 @@ small c =
     let (ok, (low, high)) = s .pre in
     le-trans (constant-sizes (s .args .mode) low high (s .args .road) ok) (lit≤ tt)
 
-add-result : tie.Need-add-result
-add-result c = first-fits (wave c) (free c) (full c) (small c)
-
-add-result-2 : tie.Need-add-result-2
-add-result-2 c = both-fit (wave c) (free c) (full c) (small c)
-
 returns : tie.Need-returns
 unfolding constantOf
-returns c = three-kept (wave c) (free c) (full c) (small c)
+returns c = three-exact (wave c) (free c) (full c) (small c)
 
 pub constant-of-spec : {M : Type 1} → statement M
 constant-of-spec =
     tie.close
     (tie.spec (λ c κs. search needs) weighted-requires (λ c κs. search needs) weighted-requires-2
-    (λ c κs. search needs) weighted-requires-3 add-result add-result-2 returns)
+    (λ c κs. search needs) weighted-requires-3 (λ c. first-fits (wave c) (free c) (full c) (small c))
+    (λ c. both-fit (wave c) (free c) (full c) (small c)) returns)

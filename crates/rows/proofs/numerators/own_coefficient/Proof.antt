@@ -9,7 +9,7 @@ use mir.Syntax.{w64}
 use mir.Val.{toZ, ofZ}
 use Rattle.rows.specs.Coefficients.{entry, ownCoefficient}
 use Rattle.rows.proofs.Sizes.{largest, pos-exact-in-i64}
-use Rattle.rows.proofs.Coefficients.{part-kept, own-sizes, first-fits, both-fit, three-kept}
+use Rattle.rows.proofs.Coefficients.{part-exact, own-sizes, first-fits, both-fit, three-exact}
 use borrow.Author.Needs.{needs}
 use Rattle.rows.proofs.numerators.own_coefficient.Statement.{statement}
 use Rattle.rows.proofs.numerators.own_coefficient.Tie as tie
@@ -23,14 +23,14 @@ free : (c : tie.After-struct-known) → let s = c .before .before .before in
 free c =
     let s = c .before .before .before in
     let (ok, (low, high)) = s .pre in
-    part-kept (s .args .mode) low high 1 (s .args .road .free) (lit< tt) (omega arith) refl (c .before .before .weighted-speed .ensures)
+    part-exact (s .args .mode) low high 1 (s .args .road .free) (lit< tt) (omega arith) refl (c .before .before .weighted-speed .ensures)
 
 wave : (c : tie.After-struct-known) → let s = c .before .before .before in
     toZ w64 (ofZ w64 (c .before .weighted-speed2 .result)) ≡ entry (s .args .mode) 2 *ℤ pos (s .args .road .wave)
 wave c =
     let s = c .before .before .before in
     let (ok, (low, high)) = s .pre in
-    part-kept (s .args .mode) low high 2 (s .args .road .wave) (lit< tt) (omega arith) refl (c .before .weighted-speed2 .ensures)
+    part-exact (s .args .mode) low high 2 (s .args .road .wave) (lit< tt) (omega arith) refl (c .before .weighted-speed2 .ensures)
 
 small : (c : tie.After-struct-known) → let s = c .before .before .before in
     natAbs (pos (s .args .road .divisor)) + natAbs (entry (s .args .mode) 1 *ℤ pos (s .args .road .free))
@@ -40,18 +40,13 @@ small c =
     let (ok, (low, high)) = s .pre in
     le-trans (own-sizes (s .args .mode) low high (s .args .road) ok) (lit≤ tt)
 
-add-result : tie.Need-add-result
-add-result c = first-fits (divisor c) (free c) (wave c) (small c)
-
-add-result-2 : tie.Need-add-result-2
-add-result-2 c = both-fit (divisor c) (free c) (wave c) (small c)
-
 returns : tie.Need-returns
 unfolding ownCoefficient
-returns c = three-kept (divisor c) (free c) (wave c) (small c)
+returns c = three-exact (divisor c) (free c) (wave c) (small c)
 
 pub own-coefficient-spec : {M : Type 1} → statement M
 own-coefficient-spec =
     tie.close
-    (tie.spec (λ c κs. search needs) (λ c κs. search needs) (λ c. search needs) add-result add-result-2
-    returns)
+    (tie.spec (λ c κs. search needs) (λ c κs. search needs) (λ c. search needs)
+    (λ c. first-fits (divisor c) (free c) (wave c) (small c))
+    (λ c. both-fit (divisor c) (free c) (wave c) (small c)) returns)

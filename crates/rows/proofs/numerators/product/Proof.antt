@@ -10,14 +10,8 @@ use Rattle.rows.proofs.numerators.product.Tie as tie
 small : (c : tie.Start) → c .args .speed * c .args .density ≤ 8 * largest
 small c = le-trans (mul-le-mul (c .pre .0) (c .pre .1)) (lit≤ tt)
 
-mul-whole : tie.Need-mul-whole
-mul-whole c = record { fits = lt-of-le-of-lt (small c) (lit< tt) }
-
-cast-result : tie.Need-cast-result
-cast-result c = fits refl (small c)
-
-returns : tie.Need-returns
-returns c = pos-exact-in-i64 (c .args .speed * c .args .density) (small c)
-
 pub product-spec : {M : Type 1} → statement M
-product-spec = tie.close (tie.spec mul-whole cast-result returns)
+product-spec =
+    tie.close
+    (tie.spec (λ c. record { fits = lt-of-le-of-lt (small c) (lit< tt) }) (λ c. fits refl (small c))
+    (λ c. pos-exact-in-i64 (c .args .speed * c .args .density) (small c)))

@@ -33,11 +33,7 @@ small c =
     let p = s .pre in
     le-trans (entry-times (s .args .mode) (s .args .column) (p .0) (p .1 .0) (p .1 .1 .0) (s .args .term)) (le-trans (p .1 .1 .1) (lit≤ tt))
 
-mul-result : tie.Need-mul-result
-mul-result c = fits (factors c) (small c)
-
-returns : tie.Need-returns
-returns c = exact-in-i64 (factors c) (small c)
-
 pub weighted-spec : {M : Type 1} → statement M
-weighted-spec = tie.close (tie.spec (λ c κs. search needs) mul-result returns)
+weighted-spec =
+    tie.close
+    (tie.spec (λ c κs. search needs) (λ c. fits (factors c) (small c)) (λ c. exact-in-i64 (factors c) (small c)))

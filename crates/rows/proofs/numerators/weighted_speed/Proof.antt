@@ -2,7 +2,7 @@
 use native.Mathlib.Nat.{le-trans}
 use lib.Dec.{lit≤}
 use Rattle.rows.proofs.Sizes.{pos-exact-in-i64}
-use Rattle.rows.proofs.Coefficients.{asked, part-kept}
+use Rattle.rows.proofs.Coefficients.{asked, part-exact}
 use borrow.Author.Needs.{needs}
 use Rattle.rows.proofs.numerators.weighted_speed.Statement.{statement}
 use Rattle.rows.proofs.numerators.weighted_speed.Tie as tie
@@ -16,7 +16,7 @@ returns : tie.Need-returns
 returns c =
     let s = c .before in
     let (low, (high, (inside, small))) = s .pre in
-    part-kept (s .args .mode) low high (s .args .column) (s .args .speed) inside (le-trans small (lit≤ tt))
+    part-exact (s .args .mode) low high (s .args .column) (s .args .speed) inside (le-trans small (lit≤ tt))
     (pos-exact-in-i64 (s .args .speed) (le-trans small (lit≤ tt))) (c .weighted .ensures)
 
 pub weighted-speed-spec : {M : Type 1} → statement M

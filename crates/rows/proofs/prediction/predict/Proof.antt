@@ -1,8 +1,8 @@
 -- `rows::predict` meets its contract: refused, nothing is written; otherwise the rows are.
 use mathlib.Core.Path.{_≡_}
 use lib.ListN.{length}
-use Rattle.road.proofs.Parts.{same-number}
-use Rattle.road.proofs.Calls.{checked}
+use Rattle.refusal.proofs.Parts.{same-number}
+use Rattle.refusal.proofs.Calls.{checked}
 use Rattle.rows.specs.Judging.{predictRefusal}
 use Rattle.rows.proofs.PredictAnswers.{predict-call, refused, done}
 use borrow.Author.Needs.{needs}
@@ -35,6 +35,4 @@ returns-2 c =
     (wrote .write-rows .last .1 .1 .1 .1 .1 .0) (wrote .write-rows .ensures)
 
 pub predict-spec : {M : Type 1} → statement M
-predict-spec =
-    tie.close
-    (tie.spec (λ c κs. search needs) returns write-rows-requires (λ c. search needs) returns-2)
+predict-spec = tie.close (tie.spec (λ c κs. search needs) returns write-rows-requires (λ c. search needs) returns-2)

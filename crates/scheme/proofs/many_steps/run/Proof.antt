@@ -60,21 +60,6 @@ returns c =
 pub run-spec : {M : Type 1} → statement M
 run-spec =
     tie.close
-    (tie.spec
-    Inv-loop
-    μ-loop
-    loop-holds
-    (λ c. search needs)
-    (λ c. search needs)
-    (λ c. search needs)
-    (λ c. search needs)
-    step-requires
-    (λ c. search needs)
-    add-entered
-    (λ c. search needs)
-    add-left
-    (λ c. search needs)
-    (λ c. search needs)
-    loop-again
-    (λ c. search needs)
-    returns)
+    (tie.spec Inv-loop μ-loop loop-holds (λ c. search needs) (λ c. search needs) (λ c. search needs)
+    (λ c. search needs) step-requires (λ c. search needs) add-entered (λ c. search needs) add-left
+    (λ c. search needs) (λ c. search needs) loop-again (λ c. search needs) returns)

@@ -35,7 +35,7 @@ returns c =
 flow-requires : tie.Need-flow-requires Inv-loop μ-loop
 flow-requires c κs =
     let s = c .before .before .before .before in
-    (s .pre .accepted, (s .pre .made, (s .pre .up-high, s .pre .below 0)))
+    (s .pre .accepted, (s .pre .pace-of-road, (s .pre .up-high, s .pre .below 0)))
 
 loop-holds : tie.Need-loop-holds Inv-loop μ-loop
 loop-holds c =
@@ -46,7 +46,7 @@ flow-requires-2 : tie.Need-flow-requires-2 Inv-loop μ-loop
 flow-requires-2 c κs =
     let l = c .before .before .before .before in
     let s = l .before .before .before .before .before .before in
-    (s .pre .accepted, (s .pre .made, (l .loop .inv .below (l .loop .i), l .loop .inv .below (l .loop .i + 1))))
+    (s .pre .accepted, (s .pre .pace-of-road, (l .loop .inv .below (l .loop .i), l .loop .inv .below (l .loop .i + 1))))
 
 sub-cells : tie.Need-sub-cells Inv-loop μ-loop
 sub-cells c =
@@ -61,7 +61,7 @@ flow-requires-3 : tie.Need-flow-requires-3 Inv-loop μ-loop
 flow-requires-3 c κs =
     let l = c .before .before .before in
     let s = l .before .before .before .before .before .before in
-    (s .pre .accepted, (s .pre .made, (l .loop .inv .below (l .loop .i), s .pre .down-high)))
+    (s .pre .accepted, (s .pre .pace-of-road, (l .loop .inv .below (l .loop .i), s .pre .down-high)))
 
 sub-cells-2 : tie.Need-sub-cells-2 Inv-loop μ-loop
 sub-cells-2 c =
@@ -72,38 +72,9 @@ sub-cells-2 c =
 pub step-spec : {M : Type 1} → statement M
 step-spec =
     tie.close
-    (tie.spec
-    Inv-loop
-    μ-loop
-    (λ c. search needs)
-    (λ c. search needs)
-    flow-requires
-    loop-holds
-    (λ c. search needs)
-    (λ c. search needs)
-    (λ c. search needs)
-    (λ c. search needs)
-    (λ c. search needs)
-    (λ c. search needs)
-    (λ c. search needs)
-    (λ c. search needs)
-    (λ c. search needs)
-    flow-requires-2
-    (λ c. search needs)
-    sub-cells
-    (λ c. search needs)
-    (λ c. search needs)
-    (λ c. search needs)
-    loop-less
-    loop-again
-    (λ c. search needs)
-    (λ c. search needs)
-    (λ c. search needs)
-    (λ c. search needs)
-    flow-requires-3
-    (λ c. search needs)
-    sub-cells-2
-    (λ c. search needs)
-    (λ c. search needs)
-    (λ c. search needs)
-    returns)
+    (tie.spec Inv-loop μ-loop (λ c. search needs) (λ c. search needs) flow-requires loop-holds (λ c. search needs)
+    (λ c. search needs) (λ c. search needs) (λ c. search needs) (λ c. search needs) (λ c. search needs)
+    (λ c. search needs) (λ c. search needs) (λ c. search needs) flow-requires-2 (λ c. search needs) sub-cells
+    (λ c. search needs) (λ c. search needs) (λ c. search needs) loop-less loop-again (λ c. search needs)
+    (λ c. search needs) (λ c. search needs) (λ c. search needs) flow-requires-3 (λ c. search needs) sub-cells-2
+    (λ c. search needs) (λ c. search needs) (λ c. search needs) returns)

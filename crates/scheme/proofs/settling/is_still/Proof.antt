@@ -54,48 +54,24 @@ returns-2 c =
 flow-requires : tie.Need-flow-requires Inv-loop μ-loop
 flow-requires c κs =
     let s = c .before .before .before .before in
-    (s .pre .accepted, (s .pre .made, (s .pre .up-high, s .pre .below 0)))
+    (s .pre .accepted, (s .pre .pace-of-road, (s .pre .up-high, s .pre .below 0)))
 
 flow-requires-2 : tie.Need-flow-requires-2 Inv-loop μ-loop
 flow-requires-2 c κs =
     let s = c .before .before .before .before .before .before .before in
-    (s .pre .accepted, (s .pre .made, (s .pre .below _, s .pre .down-high)))
+    (s .pre .accepted, (s .pre .pace-of-road, (s .pre .below _, s .pre .down-high)))
 
 flow-requires-3 : tie.Need-flow-requires-3 Inv-loop μ-loop
 flow-requires-3 c κs =
     let l = c .before .before .before .before in
     let s = l .before .before .before .before .before .before .before .before .before .before in
-    (s .pre .accepted, (s .pre .made, (s .pre .below (l .loop .i), s .pre .below (l .loop .i + 1))))
+    (s .pre .accepted, (s .pre .pace-of-road, (s .pre .below (l .loop .i), s .pre .below (l .loop .i + 1))))
 
 pub is-still-spec : {M : Type 1} → statement M
 is-still-spec =
     tie.close
-    (tie.spec
-    Inv-loop
-    μ-loop
-    (λ c. search needs)
-    (λ c. search needs)
-    flow-requires
-    (λ c. search needs)
-    (λ c. search needs)
-    (λ c. search needs)
-    (λ c. search needs)
-    (λ c. search needs)
-    flow-requires-2
-    returns
-    loop-holds
-    (λ c. search needs)
-    (λ c. search needs)
-    (λ c. search needs)
-    (λ c. search needs)
-    (λ c. search needs)
-    (λ c. search needs)
-    (λ c. search needs)
-    (λ c. search needs)
-    (λ c. search needs)
-    flow-requires-3
-    returns-2
-    (λ c. search needs)
-    (λ c. search needs)
-    loop-again
-    returns-3)
+    (tie.spec Inv-loop μ-loop (λ c. search needs) (λ c. search needs) flow-requires (λ c. search needs)
+    (λ c. search needs) (λ c. search needs) (λ c. search needs) (λ c. search needs) flow-requires-2 returns
+    loop-holds (λ c. search needs) (λ c. search needs) (λ c. search needs) (λ c. search needs) (λ c. search needs)
+    (λ c. search needs) (λ c. search needs) (λ c. search needs) (λ c. search needs) flow-requires-3 returns-2
+    (λ c. search needs) (λ c. search needs) loop-again returns-3)

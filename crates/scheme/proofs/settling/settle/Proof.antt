@@ -60,16 +60,5 @@ returns-2 c =
 pub settle-spec : {M : Type 1} → statement M
 settle-spec =
     tie.close
-    (tie.spec
-    Inv-loop
-    μ-loop
-    loop-holds
-    is-still-requires
-    (λ c. search needs)
-    returns
-    step-requires
-    (λ c. search needs)
-    (λ c. search needs)
-    loop-again
-    (λ c. search needs)
-    returns-2)
+    (tie.spec Inv-loop μ-loop loop-holds is-still-requires (λ c. search needs) returns step-requires
+    (λ c. search needs) (λ c. search needs) loop-again (λ c. search needs) returns-2)

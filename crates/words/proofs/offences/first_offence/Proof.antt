@@ -13,9 +13,6 @@ Inv-loop word before₀ i₀ before i = OffenceSought word before i
 abbrev μ-loop : tie.MeasureT-loop
 μ-loop word before₀ i₀ before i = length word - i
 
-loop-holds : tie.Need-loop-holds Inv-loop μ-loop
-loop-holds c = begins (c .before .args .word .now)
-
 returns : tie.Need-returns Inv-loop μ-loop
 returns c =
     let o = c .before in
@@ -38,5 +35,5 @@ returns-2 c =
 pub first-offence-spec : {M : Type 1} → statement M
 first-offence-spec =
     tie.close
-    (tie.spec Inv-loop μ-loop loop-holds (λ c. search needs) (λ c κs. search needs) returns
-    (λ c. search needs) (λ c. search needs) loop-again returns-2)
+    (tie.spec Inv-loop μ-loop (λ c. begins (c .before .args .word .now)) (λ c. search needs) (λ c κs. search needs)
+    returns (λ c. search needs) (λ c. search needs) loop-again returns-2)

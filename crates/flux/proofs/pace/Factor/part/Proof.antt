@@ -29,6 +29,4 @@ unfolding part
 returns c = refl
 
 pub part-spec : {M : Type 1} → statement M
-part-spec =
-    tie.close
-    (tie.spec (λ c. search needs) mul-result (λ c. search needs) add-result cast-result-3 returns)
+part-spec = tie.close (tie.spec (λ c. search needs) mul-result (λ c. search needs) add-result cast-result-3 returns)

@@ -21,6 +21,4 @@ returns c = λ i. record {
 }
 
 pub of-spec : {M : Type 1} → statement M
-of-spec =
-    tie.close
-    (tie.spec (λ c κs. search needs) (λ c κs. search needs) mul-units (λ c κs. search needs) returns)
+of-spec = tie.close (tie.spec (λ c κs. search needs) (λ c κs. search needs) mul-units (λ c κs. search needs) returns)

@@ -6,7 +6,7 @@ use lib.IntN.{pos, _*ℤ_}
 use mir.Syntax.{w64}
 use mir.Val.{toZ, ofZ}
 use Rattle.rows.proofs.Sizes.{exact-in-i64}
-use Rattle.rows.proofs.Coefficients.{times-fits, times-kept, add-first, add-second, add-third, applied-kept}
+use Rattle.rows.proofs.Coefficients.{times-fits, times-exact, add-first, add-second, add-third, applied-exact}
 use borrow.Author.Needs.{needs}
 use Rattle.rows.proofs.numerators.WholeRow.applied.Statement.{statement}
 use Rattle.rows.proofs.numerators.WholeRow.applied.Tie as tie
@@ -25,13 +25,13 @@ mul-result-2 c =
 
 -- the products as they are read back
 left-part : (c : tie.Start) → toZ w64 (ofZ w64 (toZ w64 (c .args .left) *ℤ toZ w64 (ofZ w64 (c .args .self .left)))) ≡ pos (c .args .left) *ℤ c .args .self .left
-left-part c = let (small, (l, (o, t))) = c .pre in times-kept (c .args .self .left) l (small .left-small) (lit≤ tt)
+left-part c = let (small, (l, (o, t))) = c .pre in times-exact (c .args .self .left) l (small .left-small) (lit≤ tt)
 
 own-part : (c : tie.Start) → toZ w64 (ofZ w64 (toZ w64 (c .args .own) *ℤ toZ w64 (ofZ w64 (c .args .self .own)))) ≡ pos (c .args .own) *ℤ c .args .self .own
-own-part c = let (small, (l, (o, t))) = c .pre in times-kept (c .args .self .own) o (small .own-small) (lit≤ tt)
+own-part c = let (small, (l, (o, t))) = c .pre in times-exact (c .args .self .own) o (small .own-small) (lit≤ tt)
 
 right-part : (c : tie.Start) → toZ w64 (ofZ w64 (toZ w64 (c .args .right) *ℤ toZ w64 (ofZ w64 (c .args .self .right)))) ≡ pos (c .args .right) *ℤ c .args .self .right
-right-part c = let (small, (l, (o, t))) = c .pre in times-kept (c .args .self .right) t (small .right-small) (lit≤ tt)
+right-part c = let (small, (l, (o, t))) = c .pre in times-exact (c .args .self .right) t (small .right-small) (lit≤ tt)
 
 constant-part : (c : tie.Start) → toZ w64 (ofZ w64 (c .args .self .constant)) ≡ c .args .self .constant
 constant-part c = exact-in-i64 refl (le-trans (c .pre .0 .constant-small) (lit≤ tt))
@@ -64,7 +64,7 @@ returns : tie.Need-returns
 returns c =
     let s = c .before .before .before .before .before .before .before .before in
     let (small, (l, (o, t))) = s .pre in
-    applied-kept (s .args .self) small (s .args .left) (s .args .own) (s .args .right) l o t (left-part s) (own-part s) (right-part s) (constant-part s)
+    applied-exact (s .args .self) small (s .args .left) (s .args .own) (s .args .right) l o t (left-part s) (own-part s) (right-part s) (constant-part s)
 
 pub applied-spec : {M : Type 1} → statement M
 applied-spec =

@@ -5,7 +5,7 @@ use native.Mathlib.Omega.{arith}
 use lib.Dec.{lit<, lit≤}
 use Rattle.rows.specs.Coefficients.{leftCoefficient, rightCoefficient, wholeRow}
 use Rattle.rows.proofs.Sizes.{exact-in-i64}
-use Rattle.rows.proofs.Coefficients.{part-kept, own-small, constant-small}
+use Rattle.rows.proofs.Coefficients.{part-exact, own-small, constant-small}
 use borrow.Author.Needs.{needs}
 use Rattle.rows.proofs.numerators.WholeRow.of.Statement.{statement}
 use Rattle.rows.proofs.numerators.WholeRow.of.Tie as tie
@@ -21,14 +21,13 @@ returns c =
     let r = s .args .road in
     let (ok, (low, high)) = s .pre in
     λ i. record {
-      left = part-kept m low high 0 (r .free) (lit< tt) (omega arith) refl (left .weighted-speed .ensures) i;
+      left = part-exact m low high 0 (r .free) (lit< tt) (omega arith) refl (left .weighted-speed .ensures) i;
       own = exact-in-i64 (own .own-coefficient .ensures) (le-trans (own-small m low high r ok) (lit≤ tt)) i;
-      right = part-kept m low high 3 (r .wave) (lit< tt) (omega arith) refl (right .weighted-speed2 .ensures) i;
+      right = part-exact m low high 3 (r .wave) (lit< tt) (omega arith) refl (right .weighted-speed2 .ensures) i;
       constant = exact-in-i64 (c .constant-of .ensures) (le-trans (constant-small m low high r ok) (lit≤ tt)) i;
     }
 
 pub of-spec : {M : Type 1} → statement M
 of-spec =
     tie.close
-    (tie.spec (λ c κs. search needs) (λ c κs. search needs) (λ c κs. search needs) (λ c κs. search needs)
-    returns)
+    (tie.spec (λ c κs. search needs) (λ c κs. search needs) (λ c κs. search needs) (λ c κs. search needs) returns)

@@ -1,0 +1,2 @@
+-- The form of the refusal table.
+pub mod Table

@@ -1,0 +1,3 @@
+-- The definitions of station readings, and which densities move at which speed.
+pub mod Station
+pub mod Speeds

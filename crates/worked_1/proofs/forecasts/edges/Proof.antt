@@ -1,0 +1,17 @@
+-- `forecasts::edges` is safe and ends.
+use Prim.Native.Nat.{_-_}
+use borrow.Author.Needs.{needs}
+use Rattle.worked_1.proofs.forecasts.edges.Statement.{statement}
+use Rattle.worked_1.proofs.forecasts.edges.Tie as tie
+
+abbrev Inv-loop : tie.InvT-loop
+Inv-loop page₀ i₀ page i = Unit {0}
+
+abbrev μ-loop : tie.MeasureT-loop
+μ-loop page₀ i₀ page i = 13 - i
+
+pub edges-spec : {M : Type 1} → statement M
+edges-spec =
+    tie.close
+    (tie.spec Inv-loop μ-loop (λ c. search needs) (λ c. search needs) (λ c. search needs) (λ c. search needs)
+    (λ c κs. search needs) (λ c. search needs) (λ c. search needs) (λ c. search needs) (λ c. search needs))
