@@ -11,15 +11,18 @@
  *   - It returns, whatever it is given.
  *   - It judges road, lists and values by itself. Bad input gets the first number in the call's order of checks (see
  *     REFUSALS) that applies to it, with that number's place. Nothing else is ever refused.
- *   - A refused call writes to `place` and to nothing else.
+ *   - After a refusal `place` has the place, and everything else that a call may write its former contents.
  *   - The results of an accepted call are those that the comments below define, number by number.
  *   - A forecast's densities lie from 0 to jam, whatever its caps; the units at the start plus those entered are the
  *     units at the end plus those left; and the divisor times the distance from the same forecast, with the same caps,
  *     made without rounding, summed over the cells, is at most cells x steps x (divisor - 1).
  *   - The cells that a forecast or a settling run hands back are accepted as the next one's start, on the same road,
  *     whatever its other inputs, as long as these pass their own checks and no total would pass the largest: for ever.
- *     Where forecasts carry their totals on from 0, none is refused with 19 while they make at most 18,446,744,073,709
- *     steps together.
+ *     Where forecasts carry their totals on from 0, on whatever roads and from whatever cells, none is refused with 19
+ *     while it and the accepted ones before it make at most 18,446,744,073,709 steps together.
+ *   - A forecast in two parts on one road, the second fed the first one's cells, with the same caps, hands back the cells
+ *     after the steps of both, and the units entered and left add up: what one call over both hands back, where the
+ *     ceiling allows it.
  *   - Over any chain of forecasts that begins with both totals 0, each fed with the last accepted one's cells and totals,
  *     the units at the beginning plus the total entered are the units on the road plus the total left. A refused call in
  *     the chain alters neither cells nor totals.
@@ -29,9 +32,10 @@
  * What the comments below say of a call is a clause of its contract, or follows from one at sight, but for these:
  *
  *   - Proved beside the contracts: that a call returns (of every function, by the prover); "for ever" and the totals of a
- *     chain, of which one link follows from the contracts of two calls; the printed table of the modes; which densities
- *     move at which speed (welgadou_station_speed), without rounding; that any number of further steps keeps a settled
- *     state; that a foreign word's number may be negative (a case).
+ *     chain, of which one link follows from the contracts of two calls; how long totals that begin with 0 have room; that
+ *     a run in parts is the run; the printed table of the modes; which densities move at which speed
+ *     (welgadou_station_speed), without rounding; that any number of further steps keeps a settled state; that a foreign
+ *     word's number may be negative (a case).
  *   - Not proved, but read off the code and the build: which calls use floating point; what is said of null pointers,
  *     memory, other libraries, threads and unwinding; that a refused call stores nothing (the contract says that the
  *     contents are the same, and of a NaN that it is still one); and where it stands in brackets.
@@ -174,7 +178,7 @@ uint32_t welgadou_version(void);
 /* The letter codes of a word. */
 enum { WELGADOU_W = 0, WELGADOU_L = 1, WELGADOU_D = 2 };
 
-/* The cap of a face that is not narrowed: no face moves so many units. */
+/* The cap of a face that is not narrowed: under it a face moves its units as if there were no cap. */
 #define WELGADOU_OPEN UINT32_C(4294967295)
 
 /* A road for a program to keep, and its five numbers in the order in which every call takes them:

@@ -1,4 +1,4 @@
--- The checks 5 to 11 and 20 of the refusal table, which several calls share. A call's table is a list of such checks, in the call's order; the whole table, by name, is
+-- The checks 5 to 11 and 20 of the refusal table: of lists and values, most of which several calls share. A call's table is a list of such checks, in the call's order; the whole table, by name, is
 -- `commission`'s specs/Table.antt.
 use mathlib.Core.List.{List, [], _∷_}
 use Prim.Native.Nat.{ℕ, _+_}

@@ -1,7 +1,14 @@
--- The commission is met: each sentence from the public contracts alone, the printed table of the modes by computation, and what still means by its law.
-use mathlib.Core.Path.{ap}
+-- The commission is met: what it says of calls from the public contracts, what it says of definitions (the modes' table, still, open caps, parts, room) by their laws.
+use mathlib.Core.Path.{_∙_, refl, ap, subst}
+use mathlib.Core.List.{List}
+use Prim.Native.Nat.{ℕ}
+use Rattle.refusal.specs.Table.{Among, falling}
 use Rattle.scheme.specs.declared.many_steps.Totals.{Totals}
 use Rattle.scheme.proofs.Faces.{still-means}
+use Rattle.scheme.proofs.Open.{open-moves}
+use Rattle.scheme.specs.Sums.{gap, distance}
+use Rattle.station.specs.Station.{speedDensity, estimateOf}
+use Rattle.forecast.proofs.Room.{room-left}
 use Rattle.modes.specs.declared.reading.Counts.{Counts}
 use Rattle.modes.specs.Reading.{countsOf}
 use Rattle.rows.proofs.SevenModes.{seven-modes}
@@ -9,7 +16,7 @@ use Rattle.commission.specs.Outcome.{Outcome}
 use Rattle.commission.specs.Calls.{Called, forecast, settle, read, fit, predict, candidate, count, station, nearest}
 use Rattle.commission.specs.Commission.{Demand1, Demand2, Demand3, SinceCommissioning, Commission}
 use Rattle.commission.proofs.Told.{Told}
-use Rattle.commission.proofs.ForecastCall.{forecast-told, forecast-says, chain-balances}
+use Rattle.commission.proofs.ForecastCall.{forecast-told, forecast-says, parts-say, whole-parts-say, chain-balances}
 use Rattle.commission.proofs.SettleCall.{settle-told, settling-says}
 use Rattle.commission.proofs.ReadCall.{read-told, reading-says}
 use Rattle.commission.proofs.FitCall.{fit-told, fit-says}
@@ -38,6 +45,10 @@ demand1 = record {
   named = λ o c. call-told o c .named;
   numbers = λ o c. call-told o c .numbers;
   lowest = λ o c rises. call-told o c .judged .lowest rises .lowest;
+  lower-after = λ o c number place a low.
+      subst (λ (ns : List ℕ). Among (o .refusal .number, number) (falling ns)) (call-told o c .numbers) (call-told o c .judged .lower-after number place a low);
+  forecast-falls = refl;
+  settle-falls = refl;
   rise = λ o c. call-told o c .rise;
   place = λ o c. call-told o c .judged .placed;
   table = λ o c. call-told o c .table;
@@ -47,7 +58,7 @@ demand1 = record {
 }
 
 demand2 : Demand2
-unfolding countsOf
+unfolding countsOf speedDensity estimateOf
 demand2 = record {
   flow-W = λ x c k h. reading-says x c .flow k h .W;
   flow-L = λ x c k h. reading-says x c .flow k h .L;
@@ -71,6 +82,7 @@ demand2 = record {
   own-rows-near = λ x c e caps k h left right. rows-say x c .own e .near caps k h (record { left = left; right = right });
   own-rows-open = λ x c e. rows-say x c .own e .plain;
   own-rows-open-near = λ x c e. rows-say x c .own e .plain-near;
+  open-caps = open-moves;
   entered = λ x c. forecast-says x c .in-sum;
   left = λ x c. forecast-says x c .out-sum;
   still-next = λ x c e. let s = settling-says x c in (s .least .within e, rw (s .state) (s .least .found e));
@@ -81,6 +93,8 @@ demand2 = record {
   still-means = still-means;
   full = λ x c. settling-says x c .full;
   full-done = λ x c. settling-says x c .full-done;
+  flag-yes = refl;
+  flag-no = refl;
   fits = λ x c. fit-says x c .all;
   no-misfit = λ x c. fit-says x c .no-face;
   misfit = λ x c e. let m = fit-says x c .lowest e in (m .inside, m .differs, m .lower);
@@ -103,6 +117,9 @@ demand2 = record {
   estimates = λ x c. let k = candidate-equals x c .1 in (k .left-finite, k .own-finite, k .right-finite);
   candidate-whole = whole-says;
   candidate-plain = plain-says;
+  station-density = λ x c d e. station-says x c .0 ∙ ap (estimateOf (x .road)) e;
+  station-flow = λ x c f s e. station-says x c .0 ∙ ap (estimateOf (x .road)) e;
+  station-speed = λ x c s e. station-says x c .0 ∙ ap (estimateOf (x .road)) e;
   station = station-says;
   next-modes = ranking-equals;
   nearest-change = change-says;
@@ -113,13 +130,18 @@ demand2 = record {
 }
 
 demand3 : Demand3
+unfolding gap distance
 demand3 = record {
   pairs = λ x c. let d = forecast-says x c .demand3 in (d .ups-long, d .downs-long);
   caps = λ x c. forecast-says x c .caps-long;
   densities = λ x c. let d = forecast-says x c .demand3 in (d .after-steps, d .long);
   within = λ x c. forecast-says x c .demand3 .within;
   balanced = λ x c. forecast-says x c .demand3 .balanced;
+  distance-none = refl;
+  distance-adds = λ a b xs ys. refl;
   near = λ x c. forecast-says x c .demand3 .near;
+  parts = parts-say;
+  whole = whole-parts-say;
   exact-cells = λ x c. forecast-says x c .demand3 .exact-long;
   exact-steps = λ x c. forecast-says x c .demand3 .exact-steps;
 }
@@ -131,6 +153,7 @@ since-commissioning = record {
     rw (s .carried, s .in-sum) (s .fits .entered-fits),
     rw (s .carried, s .out-sum) (s .fits .left-fits),
   );
+  room = room-left;
   chain = chain-balances;
 }
 

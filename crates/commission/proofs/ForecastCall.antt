@@ -1,20 +1,21 @@
 -- The forecast: what demand 1 says of it, and what an accepted one made, from its contracts.
-use mathlib.Core.Path.{_≡_, _∙_, refl, sym, ap}
+use mathlib.Core.Path.{_≡_, _∙_, refl, sym, ap, ap₂}
 use mathlib.Core.Logic.{inl}
-use mathlib.Core.List.{List}
+use mathlib.Core.List.{List, _++_}
 use Prim.Native.Nat.{ℕ, _+_}
 use native.Mathlib.Omega.{arith}
 use lib.ListN.{length}
 use Rattle.refusal.proofs.Table.{_&_}
 use Rattle.road.specs.declared.Road.{Road}
 use Rattle.scheme.specs.Sums.{sum}
-use Rattle.scheme.specs.Rounded.{entered, left}
+use Rattle.scheme.specs.Rounded.{roundRun, entered, left}
+use Rattle.scheme.proofs.Parts.{run-parts, entered-parts, left-parts}
 use Rattle.scheme.specs.ByFaces.{RunByFaces}
 use Rattle.scheme.specs.declared.many_steps.Totals.{Totals}
 use Rattle.forecast.specs.declared.forecasting.ForecastAnswer.{ForecastAnswer}
 use Rattle.forecast.specs.Forecast.{ownOf, increased, forecastChecks, forecastRefusal, forecastAnswer, forecastCells, Meaning, meaning, forecastMeaning, Fits, Demand3}
 use Rattle.commission.specs.Outcome.{Outcome}
-use Rattle.commission.specs.ForecastCall.{CalledForecast, forecast, welgadou-forecast, AcceptedForecast, ForecastMade, ForecastChain, commissioned, fed}
+use Rattle.commission.specs.ForecastCall.{CalledForecast, forecast, welgadou-forecast, AcceptedForecast, ForecastMade, Continued, ForecastChain, commissioned, fed}
 use Rattle.commission.specs.Table.{cells, horizon, ends, output, caps, cell, up, down, total, AllNamed}
 use Rattle.commission.proofs.Told.{value-of, former-of, value-places, road-named, Told, told-as}
 
@@ -80,6 +81,39 @@ forecast-says _ (welgadou-forecast c z) =
       carried = c .carried z;
       fits = c .judged .accepted z .fits;
     }
+
+-- what a run comes to, of the second part as it was made, from the cells of the first
+continued : {A : Type 0} (G : Road → List ℕ → List ℕ → List ℕ → List ℕ → A) (first second : AcceptedForecast) → Continued first second → {cells : List ℕ} → first .next ≡ cells
+    → G (second .road) (second .caps) (second .ups) (second .downs) (second .cells) ≡ G (first .road) (first .caps) (second .ups) (second .downs) cells
+continued G first second p e = λ i. G (p .same-road i) (p .same-caps i) (second .ups) (second .downs) ((p .fed-cells ∙ e) i)
+
+pub parts-say : (first : AcceptedForecast) → ForecastMade first → (second : AcceptedForecast) → ForecastMade second → Continued first second
+    → (second .next ≡ roundRun (first .road) (first .caps) (first .ups ++ second .ups) (first .downs ++ second .downs) (first .cells))
+    × (first .entered + second .entered ≡ entered (first .road) (first .caps) (first .ups ++ second .ups) (first .downs ++ second .downs) (first .cells))
+    × (first .left + second .left ≡ left (first .road) (first .caps) (first .ups ++ second .ups) (first .downs ++ second .downs) (first .cells))
+parts-say first d second e p =
+    let a = forecast-says first d in
+    let b = forecast-says second e in
+    let long = a .demand3 .ups-long ∙ sym (a .demand3 .downs-long) in
+    let mid = a .demand3 .after-steps in (
+      b .demand3 .after-steps ∙ continued roundRun first second p mid
+          ∙ sym (run-parts (first .road) (first .caps) (first .ups) (first .downs) (second .ups) (second .downs) (first .cells) long),
+      ap₂ _+_ (a .in-sum) (b .in-sum ∙ continued entered first second p mid)
+          ∙ sym (entered-parts (first .road) (first .caps) (first .ups) (first .downs) (second .ups) (second .downs) (first .cells) long),
+      ap₂ _+_ (a .out-sum) (b .out-sum ∙ continued left first second p mid)
+          ∙ sym (left-parts (first .road) (first .caps) (first .ups) (first .downs) (second .ups) (second .downs) (first .cells) long),
+    )
+
+pub whole-parts-say : (whole : AcceptedForecast) → ForecastMade whole → (first second : AcceptedForecast) → ForecastMade first → ForecastMade second → Continued first second
+    → whole .road ≡ first .road → whole .caps ≡ first .caps → whole .cells ≡ first .cells → whole .ups ≡ first .ups ++ second .ups → whole .downs ≡ first .downs ++ second .downs
+    → (whole .next ≡ second .next) × (whole .entered ≡ first .entered + second .entered) × (whole .left ≡ first .left + second .left)
+whole-parts-say whole c first second d e p r cs xs us ds =
+    let w = forecast-says whole c in
+    let (next, ins, outs) = parts-say first d second e p in (
+      w .demand3 .after-steps ∙ (λ i. roundRun (r i) (cs i) (us i) (ds i) (xs i)) ∙ sym next,
+      w .in-sum ∙ (λ i. entered (r i) (cs i) (us i) (ds i) (xs i)) ∙ sym ins,
+      w .out-sum ∙ (λ i. left (r i) (cs i) (us i) (ds i) (xs i)) ∙ sym outs,
+    )
 
 -- a call adds its own units to the totals, and demand 3 balances these
 pub chain-balances : {first cells : List ℕ} {totals : Totals} → ForecastChain first cells totals → sum first + totals .entered ≡ sum cells + totals .left

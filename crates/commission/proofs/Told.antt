@@ -69,7 +69,7 @@ pub record Told (o : Outcome) : Type 1 where
 -- the judgement of a contract, with its places told otherwise
 pub told-as : {checks : List Check} {Checked : Type 0} {From To : Refusal → Type 0} {f : Refusal}
     → ((g : Refusal) → From g → To g) → Judged checks Checked From f → Judged checks Checked To f
-told-as {f = f} says j = record { first = j .first; lowest = j .lowest; placed = says f (j .placed); accepted = j .accepted; no-other = j .no-other }
+told-as {f = f} says j = record { first = j .first; lowest = j .lowest; lower-after = j .lower-after; placed = says f (j .placed); accepted = j .accepted; no-other = j .no-other }
 
 -- a flag tells its test
 pub same-flag : (b c : Bool) → flagOf b ≡ flagOf c → b ≡ c

@@ -3,17 +3,17 @@
 use mathlib.Core.Path.{_≡_}
 use mathlib.Core.Bool.{true, false}
 use mathlib.Core.Logic.{_↔_, _⊎_}
-use mathlib.Core.List.{List, [], _∷_, map}
-use Prim.Native.Nat.{ℕ, _+_, _-_, _*_, _^_, _≤_, _<_}
+use mathlib.Core.List.{List, [], _∷_, _++_, map}
+use Prim.Native.Nat.{ℕ, _+_, _-_, _*_, _^_, _≤_, _<_, min}
 use lib.Dec.{T}
 use lib.IntN.{ℤ, pos, _-ℤ_, natAbs}
-use lib.Ieee.{fin, binary64, ofInt}
-use lib.ListN.{length, getD}
+use lib.Ieee.{Float, fin, binary64, add, mul, div, ofInt}
+use lib.ListN.{length, getD, replicate}
 use Rattle.road.specs.Judgement.{Accepted}
-use Rattle.refusal.specs.Table.{check, judge, rising, checkAt, Applies}
+use Rattle.refusal.specs.Table.{check, judge, rising, checkAt, Applies, Among, falling}
 use Rattle.road.specs.declared.Road.{Road}
 use Rattle.floats.specs.Worth.{Worth, FiniteUpTo}
-use Rattle.flux.specs.Face.{numerator, letterW, letterL, letterD}
+use Rattle.flux.specs.Face.{numerator, units, letterW, letterL, letterD}
 use Rattle.scheme.specs.Advance.{padded}
 use Rattle.scheme.specs.Sums.{sum, distance, times}
 use Rattle.scheme.specs.Word.{wordOf}
@@ -24,7 +24,9 @@ use Rattle.scheme.specs.Settling.{still, after}
 use Rattle.scheme.specs.declared.many_steps.Totals.{Totals}
 use Rattle.forecast.specs.declared.forecasting.Record.{Record}
 use Rattle.forecast.specs.declared.forecasting.ForecastAnswer.the-variants as Forecast
-use Rattle.forecast.specs.Settle.{PairByFaces, fullCells, fullAnswer}
+use Rattle.forecast.specs.Forecast.{forecastAnswer, forecastCells}
+use Rattle.forecast.specs.Settle.{PairByFaces}
+use Rattle.forecast.specs.Room.{Measured, RoomLeft}
 use Rattle.words.specs.Words.{legal}
 use Rattle.modes.specs.ReadOff.{upstreamOf, downstreamOf, cellsOf}
 use Rattle.counting.specs.WordCount.{wordCount}
@@ -40,9 +42,11 @@ use Rattle.modes.specs.Reading.{countOf, queuedOf, ReadChecked, Reads}
 use Rattle.counting.specs.LegalWordsCounted.{legalWords, StandsAt}
 use Rattle.candidate.specs.Candidate.{rowFor, candidateNumerator}
 use Rattle.station.specs.Station.{estimateOf}
+use Rattle.station.specs.declared.stations.StationReading.the-variants.{Density, FlowAndSpeed, Speed}
+use Rattle.welgadou.specs.Parts.{flagOf}
 use Rattle.nearest.specs.Nearest.{alters, ranking, numbersOf, changesOf, Smallest}
 use Rattle.commission.specs.Outcome.{Outcome}
-use Rattle.commission.specs.ForecastCall.{forecastNumbers, AcceptedForecast, ForecastMade, ForecastChain}
+use Rattle.commission.specs.ForecastCall.{forecastNumbers, AcceptedForecast, ForecastMade, Continued, ForecastChain}
 use Rattle.commission.specs.SettleCall.{settleNumbers, AcceptedSettling, SettlingMade}
 use Rattle.commission.specs.ReadCall.{AcceptedReading, ReadingMade}
 use Rattle.commission.specs.FitCall.{AcceptedFit, FitMade}
@@ -68,11 +72,14 @@ pub record Demand1 : Type 1 where
       → (i : ℕ) × (i < length (o .checks)) × (checkAt (o .checks) i ≡ check true (o .refusal .number) (o .refusal .place))
       × ((j : ℕ) → j < i → checkAt (o .checks) j .condition ≡ false))
   pub returned : EachCall (λ o. (number place : ℕ) → Applies (o .checks) number place → 0 < o .refusal .number)
-  -- they are the table's own checks, in the call's order. Where their numbers rise "the lowest number that applies is returned": so of every call but forecast and settling run,
-  -- in which 20 comes before 9
+  -- they are the table's own checks, in the call's order. Where their numbers rise "the lowest number that applies is returned": so of every call but forecast and settling run.
+  -- In these 20 comes before 9, and a lower number that applies besides stands after the one returned: that is 20, and the lower one 9, 10, 11 or, of a forecast, 19
   pub named : EachCall (λ o. AllNamed (o .checks))
   pub numbers : EachCall (λ o. map (λ c. c .number) (o .checks) ≡ o .numbers)
   pub lowest : EachCall (λ o. T (rising 0 (o .checks)) → (number place : ℕ) → Applies (o .checks) number place → o .refusal .number ≤ number)
+  pub lower-after : EachCall (λ o. (number place : ℕ) → Applies (o .checks) number place → number < o .refusal .number → Among (o .refusal .number, number) (falling (o .numbers)))
+  pub forecast-falls : falling forecastNumbers ≡ (20, 9) ∷ (20, 10) ∷ (20, 11) ∷ (20, 19) ∷ []
+  pub settle-falls : falling settleNumbers ≡ (20, 9) ∷ (20, 10) ∷ (20, 11) ∷ []
   pub rise : EachCall (λ o. (o .numbers ≡ forecastNumbers) ⊎ ((o .numbers ≡ settleNumbers) ⊎ T (rising 0 (o .checks))))
   pub place : EachCall (λ o. o .Placed (o .refusal))
   -- number and place are what the table comes to, down its checks
@@ -141,6 +148,17 @@ ownWord x = wordOf (x .road) (x .up) (x .down) (x .cells)
 abbrev ownWordOf : AcceptedRows → List ℕ
 ownWordOf x = wordOf (x .road) (x .up) (x .down) (x .cells)
 
+-- one end of a settling run in every step of its horizon; and totals of 0
+abbrev everyStep : AcceptedSettling → ℕ → List ℕ
+everyStep x end = replicate (x .horizon) end
+
+abbrev noTotals : Totals
+noTotals = record { entered = 0; left = 0 }
+
+-- a whole number as a float
+abbrev exactly : ℕ → Float
+exactly n = ofInt binary64 (pos n)
+
 -- of each list of caps and each cell that it leaves alone: the numerators over the faces k and k+1 of the cell at place k are at most their caps × D
 abbrev EachUncapped : AcceptedRows → (List ℕ → ℕ → Type 0) → Type 0
 EachUncapped x Says =
@@ -192,6 +210,8 @@ pub record Demand2 : Type 0 where
   pub own-rows-open : EachPrediction (λ x. x .word ≡ ownWordOf x → x .rows ≡ map pos (exactStep (x .road) (openCaps (length (x .cells))) 1 (x .up) (x .down) (x .cells)))
   pub own-rows-open-near : EachPrediction (λ x. x .word ≡ ownWordOf x → (k : ℕ)
       → natAbs (pos (x .road .divisor * getD (roundStep (x .road) (openCaps (length (x .cells))) (x .up) (x .down) (x .cells)) k 0) -ℤ getD (x .rows) k (pos 0)) < x .road .divisor)
+  -- an open cap leaves a face document 01's units, rounded as document 02, E2, says: what is said of units without caps is the case of open ones
+  pub open-caps : (r : Road) → Accepted r → (n k a b : ℕ) → k ≤ n → a ≤ r .jam → min (units r (numerator r a b)) (getD (openCaps n) k 0) ≡ units r (numerator r a b)
   -- "Entered, left .. follow from these as document 01 defines"
   pub entered : EachForecast (λ x. x .entered ≡ entered (x .road) (x .caps) (x .ups) (x .downs) (x .cells))
   pub left : EachForecast (λ x. x .left ≡ left (x .road) (x .caps) (x .ups) (x .downs) (x .cells))
@@ -204,8 +224,11 @@ pub record Demand2 : Type 0 where
   -- "A step is now still exactly when every single density is kept. A settled state must then equal the full forecast over T steps with the same ends and caps" (document 02, E8): that
   -- forecast answers Done, and an unsettled state equals it as well
   pub still-means : (r : Road) (caps : List ℕ) (up down : ℕ) (xs : List ℕ) → (still r caps up down xs ≡ true) ↔ (roundStep r caps up down xs ≡ xs)
-  pub full : EachSettling (λ x. x .next ≡ fullCells (x .road) (x .caps) (x .cells) (x .up) (x .down) (x .horizon))
-  pub full-done : EachSettling (λ x. (d : Record) × (fullAnswer (x .road) (x .caps) (x .cells) (x .up) (x .down) (x .horizon) ≡ Forecast.Done d))
+  pub full : EachSettling (λ x. x .next ≡ forecastCells (x .road) (x .caps) (x .cells) (everyStep x (x .up)) (everyStep x (x .down)) (x .horizon) noTotals (x .cells))
+  pub full-done : EachSettling (λ x. (d : Record) × (forecastAnswer (x .road) (x .caps) (x .cells) (everyStep x (x .up)) (everyStep x (x .down)) (x .horizon) noTotals (length (x .cells)) ≡ Forecast.Done d))
+  -- for C a flag says yes by 1 and no by 0: `settled`, and `holds` of a fit test
+  pub flag-yes : flagOf true ≡ 1
+  pub flag-no : flagOf false ≡ 0
   -- ".. fits ..": all faces of the word hold exactly when it is the state's; otherwise the lowest face that does not
   pub fits : EachFit (λ x. (x .holds ≡ true) ↔ (x .word ≡ ownWord x))
   pub no-misfit : EachFit (λ x. x .holds ≡ true → x .face ≡ 0)
@@ -250,6 +273,12 @@ pub record Demand2 : Type 0 where
       → (x .numerator ≡ ofInt binary64 (rowValue (x .road) (x .mode) l o t)) × Worth (x .numerator) (rowValue (x .road) (x .mode) l o t))
   pub candidate-plain : EachCandidate (λ x. (e : ℤ) → x .numerator ≡ fin true 0 e → ⊥)
   -- document 02, E1: a station's estimate by its kind, a finite number from 0 to J, as a candidate prediction asks
+  -- "A density passes unchanged. A flow is divided by its speed. A speed s alone gives q × J divided by (s × D + q)", each operation rounded once
+  pub station-density : EachStation (λ x. (d : Float) → x .reading ≡ Density d → x .estimate ≡ d)
+  pub station-flow : EachStation (λ x. (f s : Float) → x .reading ≡ FlowAndSpeed f s → x .estimate ≡ div binary64 f s)
+  pub station-speed : EachStation (λ x. (s : Float) → x .reading ≡ Speed s → x .estimate
+      ≡ div binary64 (mul binary64 (exactly (x .road .wave)) (exactly (x .road .jam)))
+      (add binary64 (mul binary64 s (exactly (x .road .divisor))) (exactly (x .road .wave))))
   pub station : EachStation (λ x. (x .estimate ≡ estimateOf (x .road) (x .reading)) × FiniteUpTo (x .road .jam) (x .estimate))
   -- document 02, E3: "for each cell the smallest signed change of that cell alone, within 0 to J, that alters the word. Down comes before up when both are equal
   -- .. Such a change exists for every cell"
@@ -276,11 +305,23 @@ pub record Demand3 : Type 0 where
   pub balanced : EachForecast (λ x. sum (x .cells) + x .entered ≡ sum (x .next) + x .left)
   -- "and D times the summed distance from the exact unrounded scheme, run from the same start and ends" and under "the same caps", "is at most n × T × (D − 1)": both sides times D to
   -- the power T, which makes the n exact densities whole
+  -- what is summed: of two lists of one length the size of the difference at each place
+  pub distance-none : distance [] [] ≡ 0
+  pub distance-adds : (a b : ℕ) (xs ys : List ℕ) → distance (a ∷ xs) (b ∷ ys) ≡ (a - b) + (b - a) + distance xs ys
   pub near : EachForecast (λ x.
       x .road .divisor * distance (times (x .road .divisor ^ x .horizon) (x .next)) (exactRun (x .road) (x .caps) 1 (x .ups) (x .downs) (x .cells))
       ≤ length (x .cells) * x .horizon * (x .road .divisor - 1) * x .road .divisor ^ x .horizon)
   pub exact-cells : EachForecast (λ x. length (exactRun (x .road) (x .caps) 1 (x .ups) (x .downs) (x .cells)) ≡ length (x .cells))
   pub exact-steps : EachForecast (λ x. ExactRunByFaces (x .road) (x .caps) 1 (x .ups) (x .downs) (x .cells) (exactRun (x .road) (x .caps) 1 (x .ups) (x .downs) (x .cells)))
+  -- a time that is forecast in two parts: the cells of the second, fed the first one's, are those after the steps of both, and entered and left add up (of any number of parts: `run-parts` of
+  -- `scheme`, for lists of any length). So is, up to the ceiling, the one call over both. The distance limit above is of each part from its own start
+  pub parts : EachForecast (λ first. (second : AcceptedForecast) → ForecastMade second → Continued first second
+      → (second .next ≡ roundRun (first .road) (first .caps) (first .ups ++ second .ups) (first .downs ++ second .downs) (first .cells))
+      × (first .entered + second .entered ≡ entered (first .road) (first .caps) (first .ups ++ second .ups) (first .downs ++ second .downs) (first .cells))
+      × (first .left + second .left ≡ left (first .road) (first .caps) (first .ups ++ second .ups) (first .downs ++ second .downs) (first .cells)))
+  pub whole : EachForecast (λ whole. (first second : AcceptedForecast) → ForecastMade first → ForecastMade second → Continued first second
+      → whole .road ≡ first .road → whole .caps ≡ first .caps → whole .cells ≡ first .cells → whole .ups ≡ first .ups ++ second .ups → whole .downs ≡ first .downs ++ second .downs
+      → (whole .next ≡ second .next) × (whole .entered ≡ first .entered + second .entered) × (whole .left ≡ first .left + second .left))
 
 -- "Totals since commissioning" (document 02, E4). That a refused call alters neither cells nor totals is `kept` of demand 1, of the output and, for C, of both totals:
 -- cells are only read
@@ -292,6 +333,9 @@ pub record SinceCommissioning : Type 0 where
   -- "Over any chain of accepted calls that begins with both totals 0, each fed with the last one's cells and totals, units at commissioning plus entered minus left are
   -- the units on the road"
   pub chain : {first cells : List ℕ} {totals : Totals} → ForecastChain first cells totals → sum first + totals .entered ≡ sum cells + totals .left
+  -- with totals carried on from 0, on whatever roads and from whatever cells, refused calls among them: while the accepted forecasts and the next make at most
+  -- 18,446,744,073,709 steps together, that is not refused with 19
+  pub room : (before : List Measured) (m : Measured) → RoomLeft before m
 
 pub record Commission : Type 1 where
   pub demand1 : Demand1

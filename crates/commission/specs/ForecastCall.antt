@@ -80,8 +80,14 @@ pub data ForecastMade : AcceptedForecast → Type 0 where
       → Forecasted r caps cells ups downs t out next entered entered-next left left-next totals totals-next place number → number ≡ 0
       → ForecastMade (acceptedForecast r caps cells ups downs t totals next (record { own = record { entered = entered-next; left = left-next }; totals = totals-next }))
 
+-- a forecast that goes on where another ends: on its road, under its caps, from the cells that it handed back
+pub record Continued (first second : AcceptedForecast) : Type 0 where
+  pub same-road : second .road ≡ first .road
+  pub same-caps : second .caps ≡ first .caps
+  pub fed-cells : second .cells ≡ first .next
+
 -- a "chain of accepted calls that begins with both totals 0, each fed with the last one's cells and totals" (document 02, E4): the cells at commissioning, those now,
--- and the totals now. The chain of `forecast`'s specs/Chain.antt told again, by contracts alone, so that its calls may be of either layer: what an accepted call feeds is equal by `made-feeds`
+-- and the totals now. The chain of `forecast`'s specs/Chain.antt told again, by contracts alone, so that its calls may be of either layer; of Rattle's, what an accepted call feeds is the same by `made-feeds`
 pub data ForecastChain (first : List ℕ) : List ℕ → Totals → Type 0 where
   commissioned : ForecastChain first first (record { entered = 0; left = 0 })
   fed : {cells : List ℕ} {totals : Totals} → ForecastChain first cells totals

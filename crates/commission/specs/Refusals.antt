@@ -6,15 +6,16 @@ use mathlib.Core.Bool.{true, false}
 use mathlib.Core.List.{List, [], _∷_}
 use Prim.Native.Nat.{ℕ}
 use lib.IntN.{pos}
-use lib.Ieee.{Float, nan, inf, fin}
+use lib.Ieee.{Float, nan, inf, fin, binary64, ofBits}
 use lib.ListN.{replicate}
-use Rattle.refusal.specs.Table.{refused}
+use Rattle.refusal.specs.Table.{refused, passed}
 use Rattle.road.specs.Judgement.{roadRefusal}
 use Rattle.road.specs.declared.Road.{Road}
 use Rattle.flux.specs.Face.{letterW, letterL, letterD}
 use Rattle.scheme.specs.Rounded.{openCaps}
+use Rattle.scheme.specs.declared.many_steps.Totals.{Totals}
 use Rattle.forecast.specs.Forecast.{forecastAnswer}
-use Rattle.forecast.specs.Settle.{settleAnswer}
+use Rattle.forecast.specs.Settle.{settleRefusal, settleAnswer}
 use Rattle.forecast.specs.declared.forecasting.ForecastAnswer.the-variants as Forecast
 use Rattle.forecast.specs.declared.settling.SettleAnswer.the-variants as Settle
 use Rattle.modes.specs.Reading.{readAnswer}
@@ -57,6 +58,10 @@ two = 0 ∷ 0 ∷ []
 abbrev pub above : List ℕ
 above = 0 ∷ 1001 ∷ 1002 ∷ []
 
+-- totals that no unit more fits into
+abbrev pub full : Totals
+full = totals 18446744073709551615 18446744073709551615
+
 -- words that check 12 refuses for three cells: a letter short, a code unknown, W followed by D, L followed by L. Each offends once more, which is not reported
 abbrev pub short : List ℕ
 short = 3 ∷ letterL ∷ letterW ∷ []
@@ -70,6 +75,13 @@ wThenD = letterD ∷ letterW ∷ letterD ∷ 3 ∷ []
 abbrev pub lThenL : List ℕ
 lThenL = letterD ∷ letterL ∷ letterL ∷ letterL ∷ []
 
+-- −5e-324, the greatest number below 0, and a speed beside which a flow of so little would be −0.0: 2 to the power 996, about 6.7e299
+abbrev pub least-below-0 : Float
+least-below-0 = ofBits binary64 9223372036854775809
+
+abbrev pub huge : Float
+huge = ofBits binary64 9092767647661031424
+
 -- a number below 0
 abbrev pub −1·0 : Float
 −1·0 = fin true 1 (pos 0)
@@ -80,6 +92,22 @@ pub record Refusals : Type 0 where
   pub road-2 : roadRefusal (road 5 6 1 1000 200) ≡ refused 2 0
   pub road-3 : roadRefusal (road 5 4 1 1000 1000) ≡ refused 3 0
   pub road-4 : roadRefusal (road 5 4 1 1000 201) ≡ refused 4 0
+  -- each part of a road's conditions: D 0, where 2 applies as well, since no speed is at most 0; p 0, q 0 and q above D; J 1, where no C is in range, C 0 and C = J; but of D 0, 4 applies as well
+  pub road-1-none : roadRefusal (road 0 0 0 1000 200) ≡ refused 1 0
+  pub road-2-p-0 : roadRefusal (road 5 0 1 1000 200) ≡ refused 2 0
+  pub road-2-q-0 : roadRefusal (road 5 4 0 1000 200) ≡ refused 2 0
+  pub road-2-q : roadRefusal (road 5 4 6 1000 200) ≡ refused 2 0
+  pub road-3-j : roadRefusal (road 5 1 1 1 1) ≡ refused 3 0
+  pub road-3-c-0 : roadRefusal (road 5 4 1 1000 0) ≡ refused 3 0
+  pub road-3-c-j : roadRefusal (road 5 4 1 200 200) ≡ refused 3 0
+  -- the ceilings of D and J, by their numerals: each itself accepted, one beyond it refused, with nothing else that refuses
+  pub road-4096 : roadRefusal (road 4096 4096 4096 1000000 500000) ≡ passed
+  pub road-4097 : roadRefusal (road 4097 4096 4096 1000000 500000) ≡ refused 1 0
+  pub road-1000001 : roadRefusal (road 4096 100 1 1000001 9901) ≡ refused 3 0
+  -- the ceilings of cells and horizon: 256 cells over 1,440 steps, 257 cells, 1,441 steps
+  pub settle-256-1440 : settleRefusal roadA (openCaps 256) (replicate 256 200) 100 0 1440 256 ≡ passed
+  pub settle-257 : settleRefusal roadA (openCaps 257) (replicate 257 200) 100 0 1440 257 ≡ refused 5 0
+  pub settle-1441 : settleRefusal roadA (openCaps 256) (replicate 256 200) 100 0 1441 256 ≡ refused 6 0
   -- forecast: caps, cells, upstream and downstream ends, T, the totals so far, length of the output
   pub forecast-1 : forecastAnswer road1 (openCaps 3) three ups downs 3 none 3 ≡ Forecast.Refused (refused 1 0)
   pub forecast-2 : forecastAnswer road2 (openCaps 3) three ups downs 3 none 3 ≡ Forecast.Refused (refused 2 0)
@@ -100,6 +128,11 @@ pub record Refusals : Type 0 where
   pub forecast-9 : forecastAnswer roadA (openCaps 3) above ups downs 3 none 3 ≡ Forecast.Refused (refused 9 2)
   pub forecast-10 : forecastAnswer roadA (openCaps 3) three above downs 3 none 3 ≡ Forecast.Refused (refused 10 1)
   pub forecast-11 : forecastAnswer roadA (openCaps 3) three ups above 3 none 3 ≡ Forecast.Refused (refused 11 1)
+  -- 19 last: of each of these it applies as well, with totals that no unit more fits into
+  pub forecast-20-before-19 : forecastAnswer roadA (openCaps 2) three ups downs 3 full 3 ≡ Forecast.Refused (refused 20 0)
+  pub forecast-9-before-19 : forecastAnswer roadA (openCaps 3) above ups downs 3 full 3 ≡ Forecast.Refused (refused 9 2)
+  pub forecast-10-before-19 : forecastAnswer roadA (openCaps 3) three above downs 3 full 3 ≡ Forecast.Refused (refused 10 1)
+  pub forecast-11-before-19 : forecastAnswer roadA (openCaps 3) three ups above 3 full 3 ≡ Forecast.Refused (refused 11 1)
   -- either total alone, by one unit: the three steps let 240 enter and 480 leave
   pub forecast-19-entered : forecastAnswer roadA (openCaps 3) three ups downs 3 (totals 18446744073709551376 0) 3 ≡ Forecast.Refused (refused 19 0)
   pub forecast-19-left : forecastAnswer roadA (openCaps 3) three ups downs 3 (totals 0 18446744073709551136) 3 ≡ Forecast.Refused (refused 19 0)
@@ -182,7 +215,15 @@ pub record Refusals : Type 0 where
   pub station-16-below-0 : stationAnswer roadA (FlowAndSpeed −1·0 −1·0) ≡ Station.Refused (refused 16 0)
   pub station-16-no-number : stationAnswer roadA (Density nan) ≡ Station.Refused (refused 16 0)
   pub station-16-zero-speed : stationAnswer roadA (FlowAndSpeed (whole 80) (whole 0)) ≡ Station.Refused (refused 16 0)
+  pub station-16-flow-nan : stationAnswer roadA (FlowAndSpeed nan (whole 1)) ≡ Station.Refused (refused 16 0)
+  pub station-16-flow-below-0 : stationAnswer roadA (FlowAndSpeed least-below-0 huge) ≡ Station.Refused (refused 16 0)
+  pub station-16-speed-nan : stationAnswer roadA (Speed nan) ≡ Station.Refused (refused 16 0)
+  pub station-16-speed-below-0 : stationAnswer roadA (Speed least-below-0) ≡ Station.Refused (refused 16 0)
+  -- of a density below 0 as well, whose result 18 would refuse too
+  pub station-16-density-below-0 : stationAnswer roadA (Density −1·0) ≡ Station.Refused (refused 16 0)
   pub station-17 : stationAnswer roadA (Speed four-fifths) ≡ Station.Refused (refused 17 0)
+  -- on D 6, p 5, q 1, J 600, C 100: the greatest double below 5/6, whose product with 6 rounds to 5
+  pub station-17-rounded : stationAnswer (road 6 5 1 600 100) (Speed (ofBits binary64 4605681218924227242)) ≡ Station.Refused (refused 17 0)
   pub station-18 : stationAnswer roadA (Density (whole 1001)) ≡ Station.Refused (refused 18 0)
   -- how near the next mode is: cells, the end pair, lengths of the numbers and of the changes
   pub nearest-1 : nearestAnswer road1 three 100 0 3 3 ≡ Nearest.Refused (refused 1 0)

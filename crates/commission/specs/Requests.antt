@@ -26,7 +26,7 @@ use Rattle.modes.specs.Reading.{readAnswer}
 use Rattle.modes.specs.declared.reading.ReadAnswer.the-variants as Read
 use Rattle.modes.specs.declared.reading.StateReading.{StateReading}
 use Rattle.nearest.specs.Nearest.{Entry, ranking}
-use Rattle.station.specs.Station.{whole, stationAnswer}
+use Rattle.station.specs.Station.{whole, estimateOf, stationAnswer}
 use Rattle.station.specs.declared.stations.StationReading.{StationReading}
 use Rattle.station.specs.declared.stations.StationReading.the-variants.{Density, FlowAndSpeed, Speed}
 use Rattle.station.specs.declared.stations.StationAnswer.the-variants.{Done, Refused}
@@ -123,6 +123,9 @@ pub record Requested : Type 0 where
   pub speed-0 : gives (Speed (whole 0)) 1000
   pub speed-0·2 : gives (Speed fifth) 500
   pub speed-0·6 : gives (Speed three-fifths) 250
+  -- 3 / 0.09 by one division, 33.333333333333336; 0.66 cells a step on D 5, p 5, q 3, J 40, C 15, 19.047619047619044: no regrouping that was tried gives it, nor a wave speed of 1
+  pub flow-3-speed-0·09 : estimateOf roadA (FlowAndSpeed (whole 3) (ofBits binary64 4591149604126578442)) ≡ ofBits binary64 4629888066921343659
+  pub speed-0·66 : estimateOf (record { divisor = 5; free = 5; wave = 3; jam = 40; critical = 15 }) (Speed (ofBits binary64 4604119971053405471)) ≡ ofBits binary64 4626054645809950914
   pub speed-0·8 : givesRefusal (Speed four-fifths) 17
   -- E2, an exact half moves up
   pub half-passes : units halfRoad (numerator halfRoad 1 0) ≡ 1

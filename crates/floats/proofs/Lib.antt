@@ -8,5 +8,7 @@ pub mod Product
 pub mod Sum
 pub mod Order
 pub mod Within
+pub mod Given
+pub mod Slower
 pub mod Row
 pub mod Known

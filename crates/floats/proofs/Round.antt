@@ -34,7 +34,7 @@ ofInt-worth f z = go (plain z)
     go (plainly s a p) h = rw (ofInt-round f s a p) (rounded-worth (rounded s a) h)
 
 -- ---- the literal 0.0
-zero-is : (f : Format) → ofBits f 0 ≡ fin false 0 (pos 0)
+pub zero-is : (f : Format) → ofBits f 0 ≡ fin false 0 (pos 0)
 unfolding ofBits
 zero-is binary32 = refl
 zero-is binary64 = refl

@@ -25,7 +25,7 @@ level-self false a = rw (eq-eqb a a refl)
 level-self true a = rw (eq-eqb a a refl)
 
 -- a finite number is no NaN, and so no whole number is
-finite-known : (s : Bool) (m : ℕ) (e : ℤ) → ne (fin s m e) (fin s m e) ≡ false
+pub finite-known : (s : Bool) (m : ℕ) (e : ℤ) → ne (fin s m e) (fin s m e) ≡ false
 unfolding ne
 finite-known s m e = ap not (level-self s (m * up e * down e))
 

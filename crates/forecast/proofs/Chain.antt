@@ -49,7 +49,7 @@ module _ (s : Site) (c : Call) where
 
   -- refused: the site as it was, and so the output
   module _ (no : eqb (refusal .number) 0 ≡ false) where
-    refuses : answerTo s c ≡ Refused refusal
+    pub refuses : answerTo s c ≡ Refused refusal
     unfolding forecastAnswer
     refuses = rw no refl
 

@@ -17,9 +17,9 @@ use Rattle.scheme.proofs.Promises.{roundRun-length, round-range, round-balance,
 use Rattle.forecast.specs.declared.settling.SettleAnswer.{SettleAnswer}
 use Rattle.forecast.specs.declared.settling.SettleAnswer.the-variants as S
 use Rattle.forecast.specs.Forecast.{forecastRefusal, Checked}
-use Rattle.forecast.specs.Settle.{settleRefusal, settleAnswer, settleOutput, meaning as settle-meaning, SettleChecked}
+use Rattle.forecast.specs.Settle.{settleRefusal, settleAnswer, settleOutput, meaning as settle-meaning, SettleChecked, Settles}
 use Rattle.forecast.specs.Chain.{Call, Site, Commissioned}
-use Rattle.forecast.specs.ForEver.{SettleCall, AnyCall, forecast, settle, ForecastPasses, SettlePasses, Passes, AllPass, forecastSteps, lifetime, settleAnswerTo, IsDone, siteAfter, stepsReported, enteredIn, leftIn, lastCells, enteredInAll, leftInAll, ForEver}
+use Rattle.forecast.specs.ForEver.{SettleCall, AnyCall, forecast, settle, ForecastPasses, SettlePasses, Passes, AllPass, forecastSteps, lifetime, settleAnswerTo, IsDone, settled, siteAfter, stepsReported, enteredIn, leftIn, lastCells, enteredInAll, leftInAll, ForEver}
 use Rattle.forecast.proofs.Checked.{forecast-call, settle-call}
 use Rattle.forecast.proofs.Chain.{answers, feeds}
 
@@ -35,6 +35,11 @@ record Feeds (r : Road) (n : ℕ) (s : Site) : Type 0 where
 record Small (steps : ℕ) (s : Site) : Type 0 where
   entered : s .totals .entered ≤ steps * jamCeiling
   left : s .totals .left ≤ steps * jamCeiling
+
+-- a settling run made: what its contract says it answered and left in its output feeds the site
+pub settle-feeds : (r : Road) (s : Site) (c : SettleCall) {next : List ℕ} {a : SettleAnswer}
+    → Settles r (c .caps) (s .cells) (c .up) (c .down) (c .horizon) (c .out) next a → settled s next a ≡ siteAfter r s (settle c)
+settle-feeds r s c made = λ i. settled s (made .output i) (made .answer i)
 
 -- what a call of the chain keeps, from the site before it to the one after it, with what entered and left
 record Keeps (r : Road) (n steps : ℕ) (s after : Site) (ins outs : ℕ) : Type 0 where

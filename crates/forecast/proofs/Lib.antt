@@ -5,3 +5,4 @@ pub mod Copied
 pub mod Calling
 pub mod Chain
 pub mod ForEver
+pub mod Room

@@ -3,3 +3,4 @@ pub mod Forecast
 pub mod Chain
 pub mod Settle
 pub mod ForEver
+pub mod Room

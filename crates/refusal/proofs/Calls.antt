@@ -7,7 +7,7 @@ use lib.Dec.{T, eqb, ltb, ltb→lt}
 use borrow.Author.Tests.{eq-eqb, ne-eqb}
 use Rattle.refusal.specs.Table.{passed, Check, judge, apart, First, Judged}
 use Rattle.refusal.specs.declared.Refusal.{Refusal}
-use Rattle.refusal.proofs.Table.{Passing, all-pass, conditionOf, placeOf, none-holds, nothing-refused, check-returned, first-fits, first-lowest}
+use Rattle.refusal.proofs.Table.{Passing, all-pass, conditionOf, placeOf, none-holds, nothing-refused, check-returned, first-fits, first-lowest, first-falls}
 use Rattle.refusal.proofs.Parts.{same-number}
 
 -- a number returned is that of its check: the condition holds, and the place is the one returned
@@ -49,6 +49,7 @@ module _ {checks : List Check} {Checked : Type 0} {Placed : Refusal → Type 0} 
   judged = record {
     first = first;
     lowest = λ rises. first-lowest checks rises first;
+    lower-after = first-falls checks first;
     placed = call .placed (subst (Returned checks) (sym (call .comes-to)) (λ n t. check-returned checks (call .distinct) n (ltb→lt 0 n t)));
     accepted = checked;
     no-other = λ c. ap (λ (g : Refusal). g .number) (clear c);

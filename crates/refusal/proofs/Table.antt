@@ -1,16 +1,16 @@
 -- The rule of the refusal table: the first check that holds is returned, and where the numbers rise no lower one applies. Checks are looked up by their number.
 use mathlib.Core.Path.{_≡_, _∙_, refl, sym, ap, subst}
 use mathlib.Core.Bool.{Bool, true, false, not, true≢false}
-use mathlib.Core.List.{List, [], _∷_, _++_}
+use mathlib.Core.List.{List, [], _∷_, _++_, map}
 use Prim.Native.Nat.{ℕ, zero, suc, _≤_, _<_, zero-le, suc-le-suc}
 use native.Mathlib.Nat.{le-refl, le-of-lt, le-of-suc-le-suc, not-suc-le-zero, lt-of-not-le}
-use native.Mathlib.Decide.{decLe}
+use native.Mathlib.Decide.{decLe, decLt}
 use native.Mathlib.Omega.{arith}
 use lib.Dec.{T, eqb, eqb→eq, ltb, ltb→lt}
-use lib.ListN.{length}
-use borrow.Author.Tests.{eq-eqb, ne-eqb}
+use lib.ListN.{length, getD, length-map, List·getD-map}
+use borrow.Author.Tests.{eq-eqb, ne-eqb, lt-ltb}
 use Rattle.choice.specs.Choice.{pick, both}
-use Rattle.refusal.specs.Table.{refused, passed, orIf, Check, check, judgeBelow, judge, lacks, apart, rising, checkAt, Applies, First, Lowest}
+use Rattle.refusal.specs.Table.{refused, passed, orIf, Among, at-head, in-tail, lowerIn, falling, Check, check, judgeBelow, judge, lacks, apart, rising, checkAt, Applies, First, Lowest}
 use Rattle.refusal.specs.declared.Refusal.{Refusal}
 use Rattle.choice.proofs.Choice.{both-left, both-right}
 
@@ -117,6 +117,65 @@ first-lowest checks {f} t first = record {
             let other : checkAt checks j .number ≡ n = ap (λ (x : Check). x .number) s in
             let order = rising-order 0 checks t i j h g in
             omega arith
+
+-- what stands in a part of a list stands in the list
+among-left : {A : Type 0} {x : A} {xs : List A} (ys : List A) → Among x xs → Among x (xs ++ ys)
+among-left ys at-head = at-head
+among-left ys (in-tail a) = in-tail (among-left ys a)
+
+among-right : {A : Type 0} {x : A} (xs : List A) {ys : List A} → Among x ys → Among x (xs ++ ys)
+among-right [] a = a
+among-right (x ∷ xs) a = in-tail (among-right xs a)
+
+-- a lower number that stands after another falls
+lower-among : (n : ℕ) (ms : List ℕ) (j : ℕ) → j < length ms → getD ms j 0 < n → Among (n, getD ms j 0) (lowerIn n ms)
+lower-among n [] j h l = absurd (not-suc-le-zero h)
+lower-among n (m ∷ ms) zero h l = rw (lt-ltb m n l) at-head
+lower-among n (m ∷ ms) (suc j) h l = by-test (ltb m n) (lower-among n ms j (le-of-suc-le-suc h) l)
+  where
+    by-test : (t : Bool) → Among (n, getD ms j 0) (lowerIn n ms) → Among (n, getD ms j 0) (pick t ((n, m) ∷ lowerIn n ms) (lowerIn n ms))
+    by-test true a = in-tail a
+    by-test false a = a
+
+falls-at : (ns : List ℕ) (i j : ℕ) → i < j → j < length ns → getD ns j 0 < getD ns i 0 → Among (getD ns i 0, getD ns j 0) (falling ns)
+falls-at [] i j h g l = absurd (not-suc-le-zero g)
+falls-at (n ∷ ns) i zero h g l = absurd (not-suc-le-zero h)
+falls-at (n ∷ ns) zero (suc j) h g l = among-left (falling ns) (lower-among n ns j (le-of-suc-le-suc g) l)
+falls-at (n ∷ ns) (suc i) (suc j) h g l = among-right (lowerIn n ns) (falls-at ns i j (le-of-suc-le-suc h) (le-of-suc-le-suc g) l)
+
+-- so that a lower number which applies stands after the first that fits
+pub first-falls : (checks : List Check) {f : Refusal} → First checks f → (number place : ℕ) → Applies checks number place → number < f .number
+    → Among (f .number, number) (falling (map (λ (c : Check). c .number) checks))
+first-falls checks {f} first n p (j, g, s) low = told (first .fits (omega arith))
+  where
+    numbers : List ℕ
+    numbers = map (λ (c : Check). c .number) checks
+
+    number-at : (k : ℕ) → getD numbers k 0 ≡ checkAt checks k .number
+    number-at k = List·getD-map (λ (c : Check). c .number) checks k (check true 0 0)
+
+    told : (i : ℕ) × (i < length checks) × (checkAt checks i ≡ check true (f .number) (f .place)) × ((j : ℕ) → j < i → checkAt checks j .condition ≡ false)
+        → Among (f .number, n) (falling numbers)
+    told (i, l, q, before) = by-order (decLt i j)
+      where
+        mine : getD numbers i 0 ≡ f .number
+        mine = number-at i ∙ ap (λ (x : Check). x .number) q
+
+        other : getD numbers j 0 ≡ n
+        other = number-at j ∙ ap (λ (x : Check). x .number) s
+
+        by-order : Dec (i < j) → Among (f .number, n) (falling numbers)
+        by-order (yes h) =
+            rw (mine, other) at (falls-at numbers i j h (rw (length-map checks (λ (c : Check). c .number)) g) (let a = mine in let b = other in omega arith))
+        by-order (no h) = by-place (decLt j i)
+          where
+            by-place : Dec (j < i) → Among (f .number, n) (falling numbers)
+            by-place (yes e) = absurd (true≢false (sym (ap (λ (x : Check). x .condition) s) ∙ before j e))
+            by-place (no e) =
+                let same : i ≡ j = omega arith in
+                let both : getD numbers i 0 ≡ getD numbers j 0 = ap (λ (k : ℕ). getD numbers k 0) same in
+                let a = mine in let b = other in
+                absurd (omega arith)
 
 -- no check's condition holds
 abbrev pub Passing : List Check → Type 0

@@ -1,7 +1,7 @@
 -- The refusal table as a form: checks of a condition, a number and a place, in the call's order of checks. The first check that holds is returned, which has the lowest number that applies where the numbers rise.
 use mathlib.Core.Path.{_≡_}
 use mathlib.Core.Bool.{Bool, true, false, not}
-use mathlib.Core.List.{List, [], _∷_}
+use mathlib.Core.List.{List, [], _∷_, _++_, map}
 use Prim.Native.Nat.{ℕ, _≤_, _<_}
 use lib.Dec.{T, eqb, ltb}
 use lib.ListN.{length, getD}
@@ -65,6 +65,21 @@ checkAt checks i = getD checks i (check true 0 0)
 abbrev pub Applies : List Check → ℕ → ℕ → Type 0
 Applies checks number place = (i : ℕ) × (i < length checks) × (checkAt checks i ≡ check true number place)
 
+-- x stands in a list
+pub data Among {A : Type 0} (x : A) : List A → Type 0 where
+  at-head : {xs : List A} → Among x (x ∷ xs)
+  in-tail : {y : A} {xs : List A} → Among x xs → Among x (y ∷ xs)
+
+-- the lower numbers of a list, each beside the number given
+abbrev pub lowerIn : ℕ → List ℕ → List (ℕ × ℕ)
+lowerIn n [] = []
+lowerIn n (m ∷ ms) = pick (ltb m n) ((n, m) ∷ lowerIn n ms) (lowerIn n ms)
+
+-- where the numbers of a list do not rise: each number with the lower ones that stand after it
+abbrev pub falling : List ℕ → List (ℕ × ℕ)
+falling [] = []
+falling (n ∷ ns) = lowerIn n ns ++ falling ns
+
 -- "the first fitting number and place of the refusal table": a number returned is that of a check which holds, with its place, and no check before it
 -- holds; where one holds, one is returned
 pub record First (checks : List Check) (f : Refusal) : Type 0 where
@@ -83,6 +98,8 @@ pub record Lowest (checks : List Check) (f : Refusal) : Type 0 where
 pub record Judged (checks : List Check) (Checked : Type 0) (Placed : Refusal → Type 0) (f : Refusal) : Type 0 where
   pub first : First checks f
   pub lowest : T (rising 0 checks) → Lowest checks f
+  -- of any call: a lower number that applies besides stands after the one returned
+  pub lower-after : (number place : ℕ) → Applies checks number place → number < f .number → Among (f .number, number) (falling (map (λ (c : Check). c .number) checks))
   pub placed : Placed f
   pub accepted : f .number ≡ 0 → Checked
   pub no-other : Checked → f .number ≡ 0

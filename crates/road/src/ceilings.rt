@@ -15,8 +15,8 @@ impl Road {
     pub const COUNT: u32 = 40;
 }
 
-// Each constant has a function with the equation to its definition, so that a moved constant is refused here.
-// Internal: the largest number of cells.
+// Internal: the largest number of cells. Each constant has such a function, with the equation to its definition, so that a
+// moved constant is refused here.
 pub fn cells_ceiling() -> u32
     ensures { λ r. ⌜ r ≡ cellsCeiling ⌝ }
 {

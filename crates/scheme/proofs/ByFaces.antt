@@ -11,7 +11,7 @@ use Rattle.road.specs.declared.Road.{Road}
 use Rattle.scheme.specs.Advance.{entering, leaving, faceFlows}
 use Rattle.scheme.specs.Rounded.{moved, roundStep, roundRun, entered, left}
 use Rattle.scheme.specs.Settling.{after}
-use Rattle.scheme.specs.Calls.{Stepped}
+use Rattle.scheme.specs.Calls.{Stepped, SteppedByFaces}
 use Rattle.scheme.specs.Exact.{exactFlow, exactStep, exactRun}
 use Rattle.scheme.specs.declared.one_step.Moved.{Moved}
 use Rattle.scheme.specs.ByFaces.{numeratorOver, unitsOver, StepByFaces, RunByFaces, none, step, flowOver, ExactStepByFaces, ExactRunByFaces, exact-none, exact-step}
@@ -43,8 +43,8 @@ module _ (r : Road) (caps : List ℕ) where
 
     -- so of the code's step by its contract alone, with the units over face 0 and face n: every face is worked from the densities that the list held before, though each new one is written over an old one
     pub step-faces : {u d : ℕ} {xs ys : List ℕ} {m : Moved} → Stepped (moved r caps) u d xs ys m
-        → StepByFaces r caps u d xs ys × ((m .entered ≡ unitsOver r caps u d xs 0) × (m .left ≡ unitsOver r caps u d xs (length xs)))
-    step-faces {u} {d} {xs} s = (rw (s .cells) (step-by-faces u d xs), (s .entered ∙ enters u d xs, s .left ∙ leaves u d xs))
+        → SteppedByFaces r caps u d xs ys m
+    step-faces {u} {d} {xs} s = record { cells = rw (s .cells) (step-by-faces u d xs); entered = s .entered ∙ enters u d xs; left = s .left ∙ leaves u d xs }
 
     pub run-by-faces : (ups downs xs : List ℕ) → length ups ≡ length downs
         → RunByFaces r caps ups downs xs (roundRun r caps ups downs xs) (entered r caps ups downs xs) (left r caps ups downs xs)

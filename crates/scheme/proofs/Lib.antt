@@ -17,5 +17,6 @@ pub mod Underway
 pub mod Stillness
 pub mod Settlement
 pub mod Promises
+pub mod Parts
 pub mod Faces
 pub mod ByFaces

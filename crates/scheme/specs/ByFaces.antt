@@ -1,5 +1,5 @@
 -- Steps and runs told again, face by face, with no subtraction and no recursion over the cells: "a step moves the whole units of each face's flow", and in the exact scheme the flow itself.
--- They are those of `Rounded` and `Exact`, equal by `run-by-faces` and `exact-run-by-faces`.
+-- Those of `Rounded` and `Exact` are such steps and runs, by `run-by-faces` and `exact-run-by-faces`.
 use mathlib.Core.Path.{_≡_}
 use mathlib.Core.List.{List, [], _∷_}
 use Prim.Native.Nat.{ℕ, _+_, _*_, _<_, min}

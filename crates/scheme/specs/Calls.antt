@@ -11,6 +11,7 @@ use Rattle.flux.specs.declared.pace.Pace.{Pace}
 use Rattle.scheme.specs.Advance.{entering, leaving, stepped}
 use Rattle.scheme.specs.Sums.{Below}
 use Rattle.scheme.specs.Rounded.{roundRun, entered, left}
+use Rattle.scheme.specs.ByFaces.{unitsOver, StepByFaces}
 use Rattle.scheme.specs.Settling.{settles, settleSteps, settleCells}
 use Rattle.scheme.specs.declared.settling.Settled.{Settled}
 use Rattle.scheme.specs.declared.one_step.Moved.{Moved}
@@ -38,6 +39,13 @@ pub record Stepped (F : ℕ → ℕ → ℕ → ℕ) (up down : ℕ) (xs ys : Li
   pub cells : ys ≡ stepped 1 F up down xs
   pub entered : m .entered ≡ entering F up down xs
   pub left : m .left ≡ leaving F up down xs
+
+-- the same on a road, told again face by face and without a subtraction that is cut off at 0 (it is so by `step-faces`): at every cell new + out to the right = old + in from
+-- the left, both faces worked from the old densities
+pub record SteppedByFaces (r : Road) (caps : List ℕ) (up down : ℕ) (xs ys : List ℕ) (m : Moved) : Type 0 where
+  pub cells : StepByFaces r caps up down xs ys
+  pub entered : m .entered ≡ unitsOver r caps up down xs 0
+  pub left : m .left ≡ unitsOver r caps up down xs (length xs)
 
 -- a run from the list xs has left the list ys, with the sums over face 0 and face n
 pub record Ran (r : Road) (caps ups downs xs ys : List ℕ) (t : Totals) : Type 0 where

@@ -9,6 +9,7 @@ pub use many_steps::run;
 pub use neighbours::density_at;
 pub use one_step::Moved;
 pub use one_step::OPEN;
+pub use one_step::open_cap;
 pub use one_step::step;
 pub use settling::Settled;
 pub use settling::settle;

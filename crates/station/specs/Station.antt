@@ -10,7 +10,7 @@ use Rattle.refusal.specs.Table.{Check, check, judge, refused, Judged, unlessRef
 use Rattle.road.specs.Judgement.{roadChecks, Accepted}
 use Rattle.road.specs.declared.Road.{Road}
 use Rattle.refusal.specs.declared.Refusal.{Refusal}
-use Rattle.floats.specs.Worth.{FiniteUpTo}
+use Rattle.floats.specs.Worth.{FiniteUpTo, NotBelow0, Above0, SlowerThan}
 use Rattle.candidate.specs.Candidate.{badEstimate}
 use Rattle.station.specs.declared.stations.StationReading.{StationReading}
 use Rattle.station.specs.declared.stations.StationReading.the-variants.{Density, FlowAndSpeed, Speed}
@@ -101,11 +101,23 @@ stationMeaning r x = record {
   density = unlessRefused (stationRefusal r x) (estimateOf r x) zero;
 }
 
+-- what a reading is that 16 lets through, kind by kind: each number given is finite and not below 0, and a speed beside a flow above 0
+abbrev pub Given : StationReading → Type 0
+Given (Density d) = NotBelow0 d
+Given (FlowAndSpeed f s) = NotBelow0 f × Above0 s
+Given (Speed s) = NotBelow0 s
+
+-- what 17 asks of it besides: "the rounded s × D must be below p" of a lone speed, and so is a finite number from 0 on
+abbrev pub Slow : Road → StationReading → Type 0
+Slow r (Density d) = Unit {0}
+Slow r (FlowAndSpeed f s) = Unit {0}
+Slow r (Speed s) = SlowerThan (r .free) (timesDivisor r s)
+
 -- what an input that no check refuses is
 pub record StationChecked (r : Road) (x : StationReading) : Type 0 where
   pub accepted : Accepted r
-  pub given : badGiven x ≡ false
-  pub slow : tooFast r x ≡ false
+  pub given : Given x
+  pub slow : Slow r x
   pub finite : FiniteUpTo (r .jam) (estimateOf r x)
 
 -- demand 1 of a refusal, of the station's checks: every place is 0

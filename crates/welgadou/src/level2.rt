@@ -11,7 +11,7 @@ use road::Road;
 use rows::PredictAnswer;
 
 // 0, with the letters in `letters`, the modes in `modes`, the seven counts behind `counts`, the queued cells in `queued`
-// and 0 in `place`; or the refusal's number with its place, and nothing else written.
+// and 0 in `place`; or the refusal's number with its place, and every other output as it was.
 #[no_mangle]
 pub extern "C" fn welgadou_read(
     divisor: u32,
@@ -56,7 +56,7 @@ pub extern "C" fn welgadou_read(
 }
 
 // 0, with 1 in `holds` where every face of the word holds and 0 where not, in `face` the lowest face that does not hold
-// and 0 where all hold, and 0 in `place`; or the refusal's number with its place, and nothing else written.
+// and 0 where all hold, and 0 in `place`; or the refusal's number with its place, and every other output as it was.
 #[no_mangle]
 pub extern "C" fn welgadou_fit(
     divisor: u32,
@@ -95,8 +95,8 @@ pub extern "C" fn welgadou_fit(
     }
 }
 
-// 0, with each cell's row numerator in `out` and 0 in `place`; or the refusal's number with its place, and nothing else
-// written.
+// 0, with each cell's row numerator in `out` and 0 in `place`; or the refusal's number with its place, and every
+// other output as it was.
 #[no_mangle]
 pub extern "C" fn welgadou_rows(
     divisor: u32,
@@ -170,8 +170,8 @@ pub extern "C" fn welgadou_candidate_2(
     }
 }
 
-// 0, with the number of legal words in `words` and 0 in `place`; or the refusal's number with its place, and nothing else
-// written.
+// 0, with the number of legal words in `words` and 0 in `place`; or the refusal's number with its place, and every
+// other output as it was.
 #[no_mangle]
 pub extern "C" fn welgadou_count(cells: u32, words: &mut u64, place: &mut u32) -> u32
     ensures { λ n. ⌜ WordsCounted cells (now (words .entry)) (now (words .exit)) (now (place .exit)) n ⌝ }

@@ -5,7 +5,7 @@ use nearest::NearestAnswer;
 use road::Road;
 
 // 0, with the cells' numbers in `numbers`, each one's smallest change that alters the word at the same place of `changes`,
-// and 0 in `place`; or the refusal's number with its place, and nothing else written.
+// and 0 in `place`; or the refusal's number with its place, and every other output as it was.
 #[no_mangle]
 pub extern "C" fn welgadou_nearest(
     divisor: u32,

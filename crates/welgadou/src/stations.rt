@@ -23,8 +23,8 @@ fn estimated(road: Road, reading: StationReading, estimate: &mut f64, place: &mu
     }
 }
 
-// 0, with the density itself in `estimate` and 0 in `place`; or the refusal's number with its place, and nothing else
-// written.
+// 0, with the density itself in `estimate` and 0 in `place`; or the refusal's number with its place, and every
+// other output as it was.
 #[no_mangle]
 pub extern "C" fn welgadou_station_density(
     divisor: u32,
@@ -48,8 +48,8 @@ pub extern "C" fn welgadou_station_density(
     estimated(road, StationReading::Density(density), estimate, place)
 }
 
-// 0, with the flow divided by the speed in `estimate` and 0 in `place`; or the refusal's number with its place, and
-// nothing else written.
+// 0, with the flow divided by the speed in `estimate` and 0 in `place`; or the refusal's number with its place, and every
+// other output as it was.
 #[no_mangle]
 pub extern "C" fn welgadou_station_flow(
     divisor: u32,
@@ -79,8 +79,8 @@ pub extern "C" fn welgadou_station_flow(
     )
 }
 
-// 0, with the density worked from the speed in `estimate` and 0 in `place`; or the refusal's number with its place, and
-// nothing else written.
+// 0, with the density worked from the speed in `estimate` and 0 in `place`; or the refusal's number with its place, and every
+// other output as it was.
 #[no_mangle]
 pub extern "C" fn welgadou_station_speed(
     divisor: u32,

@@ -8,6 +8,7 @@ use Rattle.scheme.specs.Rounded.{moved}
 use Rattle.scheme.proofs.Range.{out-holds}
 use Rattle.scheme.proofs.Laws.{lawful}
 use Rattle.scheme.proofs.InPlace.{StepUnderway, begins, turns, ends}
+use Rattle.scheme.proofs.ByFaces.{step-faces}
 use Rattle.scheme.proofs.one_step.step.Statement.{statement}
 use Rattle.scheme.proofs.one_step.step.Tie as tie
 
@@ -29,8 +30,9 @@ returns c =
     let l = c .before .before .before .before in
     let s = l .before .before .before .before .before .before in
     let last : length (s .args .cells .now) ≡ suc (l .loop .i) = let n = l .loop .inv .long in let h = l .loop .inv .inside in omega arith in
-    ends (lawful (s .pre)) (l .loop .inv) (let n = l .loop .inv .long in omega arith)
-    (c .flow3 .ensures ∙ ap (λ (k : ℕ). moved (s .args .pace .road) (s .args .caps .now) k (getD (l .loop .cells) (l .loop .i) 0) (s .args .down)) last)
+    let stepped = ends (lawful (s .pre)) (l .loop .inv) (let n = l .loop .inv .long in omega arith)
+    (c .flow3 .ensures ∙ ap (λ (k : ℕ). moved (s .args .pace .road) (s .args .caps .now) k (getD (l .loop .cells) (l .loop .i) 0) (s .args .down)) last) in
+    (stepped, step-faces (s .args .pace .road) (s .args .caps .now) (s .pre .accepted) stepped)
 
 flow-requires : tie.Need-flow-requires Inv-loop μ-loop
 flow-requires c κs =

@@ -47,7 +47,7 @@ loop-again c =
     let s = l .before .before .before in
     let e = c .before .before .before .before in
     turns (l .loop .inv) (c .before .before .step .last .1 .1 .0)
-    (e .before .before .before .loop-test .taken) (sym (e .before .is-still .ensures) ∙ e .if1 .left) (c .before .before .step .ensures .cells)
+    (e .before .before .before .loop-test .taken) (sym (e .before .is-still .ensures) ∙ e .if1 .left) (c .before .before .step .ensures .0 .cells)
     (stepped-length 1 (moved (s .args .pace .road) (s .args .caps .now)) (s .args .up) (s .args .down) (l .loop .cells))
     (steps-below (lawful (s .pre)) (s .args .up) (s .args .down) (l .loop .cells) (l .loop .inv .below))
 
