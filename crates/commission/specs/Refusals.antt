@@ -92,7 +92,7 @@ pub record Refusals : Type 0 where
   pub road-2 : roadRefusal (road 5 6 1 1000 200) ≡ refused 2 0
   pub road-3 : roadRefusal (road 5 4 1 1000 1000) ≡ refused 3 0
   pub road-4 : roadRefusal (road 5 4 1 1000 201) ≡ refused 4 0
-  -- each part of a road's conditions: D 0, where 2 applies as well, since no speed is at most 0; p 0, q 0 and q above D; J 1, where no C is in range, C 0 and C = J; but of D 0, 4 applies as well
+  -- each part of a road's conditions: D 0, where 2 applies as well, since no speed is at most 0; p 0, q 0 and q above D; J 1, where no C is in range, C 0 and C = J. In all of these but that of D 0, 4 applies as well
   pub road-1-none : roadRefusal (road 0 0 0 1000 200) ≡ refused 1 0
   pub road-2-p-0 : roadRefusal (road 5 0 1 1000 200) ≡ refused 2 0
   pub road-2-q-0 : roadRefusal (road 5 4 0 1000 200) ≡ refused 2 0
