@@ -1,6 +1,6 @@
 // A caller of each public call of C: it asks nothing, only calls, and promises the call's record.
 ghost use Rattle.station.specs.declared.stations.StationReading.TheVariants.{Density, FlowAndSpeed, Speed};
-ghost use Rattle.welgadou.specs.Parts.{roadOf, totalsOf};
+ghost use Rattle.welgadou.specs.Parts.{road_of, totals_of};
 ghost use Rattle.welgadou.specs.Level1.{Forecasted, SettledRun};
 ghost use Rattle.welgadou.specs.Level2.{StateRead, WordFitted, RowsPredicted, CandidatePredicted, WordsCounted};
 ghost use Rattle.welgadou.specs.Stations.{StationEstimated};
@@ -25,7 +25,7 @@ pub fn c_forecast(
     total_left: &mut u64,
     place: &mut u32,
 ) -> u32
-    ensures { Forecasted (roadOf divisor free wave jam critical) caps.now cells.now upstream.now downstream.now horizon out.old out.new entered.old entered.new left.old left.new (totalsOf total_entered.old total_left.old) (totalsOf total_entered.new total_left.new) place.new result }
+    ensures { Forecasted (road_of divisor free wave jam critical) caps.now cells.now upstream.now downstream.now horizon out.old out.new entered.old entered.new left.old left.new (totals_of total_entered.old total_left.old) (totals_of total_entered.new total_left.new) place.new result }
 {
     welgadou::welgadou_forecast_3(
         divisor,
@@ -64,7 +64,7 @@ pub fn c_settle(
     steps: &mut u32,
     place: &mut u32,
 ) -> u32
-    ensures { SettledRun (roadOf divisor free wave jam critical) caps.now cells.now upstream downstream horizon out.old out.new settled.old settled.new steps.old steps.new place.new result }
+    ensures { SettledRun (road_of divisor free wave jam critical) caps.now cells.now upstream downstream horizon out.old out.new settled.old settled.new steps.old steps.new place.new result }
 {
     welgadou::welgadou_settle_2(
         divisor, free, wave, jam, critical, cells, upstream, downstream, horizon, caps, out,
@@ -88,7 +88,7 @@ pub fn c_read(
     queued: &mut u32,
     place: &mut u32,
 ) -> u32
-    ensures { StateRead (roadOf divisor free wave jam critical) cells.now upstream downstream letters.old letters.new modes.old modes.new counts.old counts.new queued.old queued.new place.new result }
+    ensures { StateRead (road_of divisor free wave jam critical) cells.now upstream downstream letters.old letters.new modes.old modes.new counts.old counts.new queued.old queued.new place.new result }
 {
     welgadou::welgadou_read(
         divisor, free, wave, jam, critical, cells, upstream, downstream, letters, modes, counts,
@@ -111,7 +111,7 @@ pub fn c_fit(
     face: &mut u32,
     place: &mut u32,
 ) -> u32
-    ensures { WordFitted (roadOf divisor free wave jam critical) cells.now upstream downstream word.now holds.old holds.new face.old face.new place.new result }
+    ensures { WordFitted (road_of divisor free wave jam critical) cells.now upstream downstream word.now holds.old holds.new face.old face.new place.new result }
 {
     welgadou::welgadou_fit(
         divisor, free, wave, jam, critical, cells, upstream, downstream, word, holds, face, place,
@@ -132,7 +132,7 @@ pub fn c_rows(
     out: &mut [i64],
     place: &mut u32,
 ) -> u32
-    ensures { RowsPredicted (roadOf divisor free wave jam critical) cells.now upstream downstream word.now out.old out.new place.new result }
+    ensures { RowsPredicted (road_of divisor free wave jam critical) cells.now upstream downstream word.now out.old out.new place.new result }
 {
     welgadou::welgadou_rows(
         divisor, free, wave, jam, critical, cells, upstream, downstream, word, out, place,
@@ -153,7 +153,7 @@ pub fn c_candidate(
     numerator: &mut f64,
     place: &mut u32,
 ) -> u32
-    ensures { CandidatePredicted (roadOf divisor free wave jam critical) mode left own right numerator.old numerator.new place.new result }
+    ensures { CandidatePredicted (road_of divisor free wave jam critical) mode left own right numerator.old numerator.new place.new result }
 {
     welgadou::welgadou_candidate_2(
         divisor, free, wave, jam, critical, mode, left, own, right, numerator, place,
@@ -181,7 +181,7 @@ pub fn c_nearest(
     changes: &mut [i32],
     place: &mut u32,
 ) -> u32
-    ensures { NearestRanked (roadOf divisor free wave jam critical) cells.now upstream downstream numbers.old numbers.new changes.old changes.new place.new result }
+    ensures { NearestRanked (road_of divisor free wave jam critical) cells.now upstream downstream numbers.old numbers.new changes.old changes.new place.new result }
 {
     welgadou::welgadou_nearest(
         divisor, free, wave, jam, critical, cells, upstream, downstream, numbers, changes, place,
@@ -199,7 +199,7 @@ pub fn c_station_density(
     estimate: &mut f64,
     place: &mut u32,
 ) -> u32
-    ensures { StationEstimated (roadOf divisor free wave jam critical) (Density density) estimate.old estimate.new place.new result }
+    ensures { StationEstimated (road_of divisor free wave jam critical) (Density density) estimate.old estimate.new place.new result }
 {
     welgadou::welgadou_station_density(divisor, free, wave, jam, critical, density, estimate, place)
 }
@@ -216,7 +216,7 @@ pub fn c_station_flow(
     estimate: &mut f64,
     place: &mut u32,
 ) -> u32
-    ensures { StationEstimated (roadOf divisor free wave jam critical) (FlowAndSpeed flow speed) estimate.old estimate.new place.new result }
+    ensures { StationEstimated (road_of divisor free wave jam critical) (FlowAndSpeed flow speed) estimate.old estimate.new place.new result }
 {
     welgadou::welgadou_station_flow(
         divisor, free, wave, jam, critical, flow, speed, estimate, place,
@@ -234,7 +234,7 @@ pub fn c_station_speed(
     estimate: &mut f64,
     place: &mut u32,
 ) -> u32
-    ensures { StationEstimated (roadOf divisor free wave jam critical) (Speed speed) estimate.old estimate.new place.new result }
+    ensures { StationEstimated (road_of divisor free wave jam critical) (Speed speed) estimate.old estimate.new place.new result }
 {
     welgadou::welgadou_station_speed(divisor, free, wave, jam, critical, speed, estimate, place)
 }

@@ -4,7 +4,7 @@ ghost use Rattle.std.specs.Float.{binary64};
 ghost use Rattle.std.specs.Float.Ieee.{of_int};
 ghost use Rattle.choice.specs.Choice.{pick};
 ghost use Rattle.road.specs.Judgement.{Accepted, outside};
-ghost use Rattle.candidate.specs.Candidate.{rowFor, applied, badEstimate, candidateRefusal, Candidates};
+ghost use Rattle.candidate.specs.Candidate.{row_for, applied, bad_estimate, candidate_refusal, Candidates};
 
 use refusal::Refusal;
 use road::Road;
@@ -45,7 +45,7 @@ impl CandidateRow {
         requires accepted { Accepted road }
         requires le_mode { 1 ≤ mode }
         requires mode_bound { mode ≤ 7 }
-        ensures { result ≡ rowFor road mode }
+        ensures { result ≡ row_for road mode }
     {
         let row = WholeRow::of(road, mode);
         CandidateRow {
@@ -67,7 +67,7 @@ impl CandidateRow {
 // Internal: 14, an estimate that is not a number, below 0 or above J; a station's 18 is the same test. The sign of a zero
 // does not count.
 pub fn bad_estimate(jam: u32, x: f64) -> bool
-    ensures { result ≡ badEstimate jam x }
+    ensures { result ≡ bad_estimate jam x }
 {
     if x != x {
         return true;
@@ -100,7 +100,7 @@ fn bad_mode(mode: u8) -> bool
 
 // Internal: the candidate's refusal, or none.
 fn judged(road: Road, mode: u8, left: f64, own: f64, right: f64) -> Refusal
-    ensures { result ≡ candidateRefusal road mode left own right }
+    ensures { result ≡ candidate_refusal road mode left own right }
 {
     let bad_mode = bad_mode(mode);
     let bad_left = bad_estimate(road.jam, left);

@@ -8,66 +8,66 @@ use native.Mathlib.Decide.{dec_lt}
 use native.Mathlib.Omega.{arith}
 use lib.ListN.{length, get_or, get_or-eq_default}
 use borrow.Author.Tests.{lt-ltb, le-ltb, ltb-true, ltb-false}
-use Rattle.checks.specs.Values.{firstAbove, anyAbove, FirstAbove}
+use Rattle.checks.specs.Values.{first_index_above, any_above, FirstAbove}
 
 -- one density of the search, by its test
-firstAbove-head : (j x : ℕ) (xs : List ℕ) → j < x → firstAbove j (x ∷ xs) ≡ 0
-unfolding firstAbove
-firstAbove-head j x xs h = rw (lt-ltb j x h)
+first_above_head : (j x : ℕ) (xs : List ℕ) → j < x → first_index_above j (x ∷ xs) ≡ 0
+unfolding first_index_above
+first_above_head j x xs h = rw (lt-ltb j x h)
 
-firstAbove-tail : (j x : ℕ) (xs : List ℕ) → x ≤ j → firstAbove j (x ∷ xs) ≡ suc (firstAbove j xs)
-unfolding firstAbove
-firstAbove-tail j x xs h = rw (le-ltb j x h)
+first_above_tail : (j x : ℕ) (xs : List ℕ) → x ≤ j → first_index_above j (x ∷ xs) ≡ suc (first_index_above j xs)
+unfolding first_index_above
+first_above_tail j x xs h = rw (le-ltb j x h)
 
 -- a place before which nothing is above, and which is above or the end, is the first
-pub first-is : (j : ℕ) (xs : List ℕ) (k : ℕ) → k ≤ length xs → ((i : ℕ) → i < k → get_or xs i 0 ≤ j) → (k < length xs → j < get_or xs k 0) → firstAbove j xs ≡ k
-unfolding firstAbove
-first-is j [] zero h low high = refl
-first-is j [] (suc k) h low high = absurd (not-suc-le-zero h)
-first-is j (x ∷ xs) zero h low high = firstAbove-head j x xs (high (suc-le-suc zero-le))
-first-is j (x ∷ xs) (suc k) h low high =
-    firstAbove-tail j x xs (low 0 (suc-le-suc zero-le))
-    ∙ ap suc (first-is j xs k (le_of_suc-le-suc h) (λ i l. low (suc i) (suc-le-suc l)) (λ l. high (suc-le-suc l)))
+pub first_is : (j : ℕ) (xs : List ℕ) (k : ℕ) → k ≤ length xs → ((i : ℕ) → i < k → get_or xs i 0 ≤ j) → (k < length xs → j < get_or xs k 0) → first_index_above j xs ≡ k
+unfolding first_index_above
+first_is j [] zero h low high = refl
+first_is j [] (suc k) h low high = absurd (not-suc-le-zero h)
+first_is j (x ∷ xs) zero h low high = first_above_head j x xs (high (suc-le-suc zero-le))
+first_is j (x ∷ xs) (suc k) h low high =
+    first_above_tail j x xs (low 0 (suc-le-suc zero-le))
+    ∙ ap suc (first_is j xs k (le_of_suc-le-suc h) (λ i l. low (suc i) (suc-le-suc l)) (λ l. high (suc-le-suc l)))
 
 -- what a search of xs that ended at k has seen
 record Searched (j : ℕ) (xs : List ℕ) (k : ℕ) : Type 0 where
   low : (i : ℕ) → i < k → get_or xs i 0 ≤ j
   high : k < length xs → j < get_or xs k 0
 
-searched : (j : ℕ) (xs : List ℕ) → Searched j xs (firstAbove j xs)
-unfolding firstAbove
+searched : (j : ℕ) (xs : List ℕ) → Searched j xs (first_index_above j xs)
+unfolding first_index_above
 searched j [] = record { low = λ i h. zero-le; high = λ h. absurd (not-suc-le-zero h) }
-searched j (x ∷ xs) = by-density (dec_lt j x) (searched j xs)
+searched j (x ∷ xs) = by_density (dec_lt j x) (searched j xs)
   where
-    by-density : Dec (j < x) → Searched j xs (firstAbove j xs) → Searched j (x ∷ xs) (firstAbove j (x ∷ xs))
-    by-density (yes a) rest =
-        rw (firstAbove-head j x xs a) record { low = λ i h. absurd (not-suc-le-zero h); high = λ h. a }
-    by-density (no n) rest =
-        rw (firstAbove-tail j x xs (omega arith)) record { low = low; high = λ h. rest.high (le_of_suc-le-suc h) }
+    by_density : Dec (j < x) → Searched j xs (first_index_above j xs) → Searched j (x ∷ xs) (first_index_above j (x ∷ xs))
+    by_density (yes a) rest =
+        rw (first_above_head j x xs a) record { low = λ i h. absurd (not-suc-le-zero h); high = λ h. a }
+    by_density (no n) rest =
+        rw (first_above_tail j x xs (omega arith)) record { low = low; high = λ h. rest.high (le_of_suc-le-suc h) }
       where
-        low : (i : ℕ) → i < suc (firstAbove j xs) → get_or (x ∷ xs) i 0 ≤ j
+        low : (i : ℕ) → i < suc (first_index_above j xs) → get_or (x ∷ xs) i 0 ≤ j
         low zero h = omega arith
         low (suc i) h = rest.low i (le_of_suc-le-suc h)
 
 -- a place that is reported is above jam, and no earlier one is
-pub first_above : (j : ℕ) (xs : List ℕ) → anyAbove j xs ≡ true → FirstAbove j xs (firstAbove j xs)
+pub first_above : (j : ℕ) (xs : List ℕ) → any_above j xs ≡ true → FirstAbove j xs (first_index_above j xs)
 first_above j xs e = record {
-  above = (searched j xs).high (ltb-true (firstAbove j xs) (length xs) e);
+  above = (searched j xs).high (ltb-true (first_index_above j xs) (length xs) e);
   earlier = (searched j xs).low;
 }
 
 -- where none is reported every density is in range, and the other way round
-pub all-below : (j : ℕ) (xs : List ℕ) → anyAbove j xs ≡ false → (i : ℕ) → get_or xs i 0 ≤ j
-all-below j xs e i = by_place (dec_lt i (length xs))
+pub all_below : (j : ℕ) (xs : List ℕ) → any_above j xs ≡ false → (i : ℕ) → get_or xs i 0 ≤ j
+all_below j xs e i = by_place (dec_lt i (length xs))
   where
-    past : length xs ≤ firstAbove j xs
-    past = ltb-false (firstAbove j xs) (length xs) e
+    past : length xs ≤ first_index_above j xs
+    past = ltb-false (first_index_above j xs) (length xs) e
 
     by_place : Dec (i < length xs) → get_or xs i 0 ≤ j
     by_place (yes l) = (searched j xs).low i (let h = past in omega arith)
     by_place (no n) = rw (get_or-eq_default xs 0 {n = i} (omega arith)) zero-le
 
-pub none_above : (j : ℕ) (xs : List ℕ) → ((i : ℕ) → get_or xs i 0 ≤ j) → anyAbove j xs ≡ false
+pub none_above : (j : ℕ) (xs : List ℕ) → ((i : ℕ) → get_or xs i 0 ≤ j) → any_above j xs ≡ false
 none_above j xs h =
-    le-ltb (firstAbove j xs) (length xs)
-    (le_of_eq (sym (first-is j xs (length xs) (le_refl (length xs)) (λ i l. h i) (λ l. absurd (lt_irrefl (length xs) l)))))
+    le-ltb (first_index_above j xs) (length xs)
+    (le_of_eq (sym (first_is j xs (length xs) (le_refl (length xs)) (λ i l. h i) (λ l. absurd (lt_irrefl (length xs) l)))))

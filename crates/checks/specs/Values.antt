@@ -3,18 +3,18 @@ use Rattle.std.specs.Prelude.{◌≡◌, Bool, List, [], ◌∷◌, ℕ, suc, �
 use Rattle.choice.specs.Choice.{pick}
 
 -- the place, from 0, of the first density above j; the number of densities where none is
-unfoldable pub firstAbove : ℕ → List ℕ → ℕ
-firstAbove j [] = 0
-firstAbove j (x ∷ xs) = pick (ltb j x) 0 (suc (firstAbove j xs))
+unfoldable pub first_index_above : ℕ → List ℕ → ℕ
+first_index_above j [] = 0
+first_index_above j (x ∷ xs) = pick (ltb j x) 0 (suc (first_index_above j xs))
 
 -- what a search for it hands back, which lies in the list or at its end
 pub record Found (j : ℕ) (xs : List ℕ) (place : ℕ) : Type 0 where
-  pub at : place ≡ firstAbove j xs
+  pub at : place ≡ first_index_above j xs
   pub inside : place ≤ length xs
 
 -- some density is above j
-abbrev pub anyAbove : ℕ → List ℕ → Bool
-anyAbove j xs = ltb (firstAbove j xs) (length xs)
+abbrev pub any_above : ℕ → List ℕ → Bool
+any_above j xs = ltb (first_index_above j xs) (length xs)
 
 -- what a place that was reported means: the density there is above j, and no earlier one is
 pub record FirstAbove (j : ℕ) (xs : List ℕ) (place : ℕ) : Type 0 where

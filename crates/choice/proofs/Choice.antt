@@ -31,9 +31,9 @@ pub both_first : (a b : Bool) → both a b ≡ true → a ≡ true
 both_first true b e = refl
 both_first false b e = absurd (false≢true e)
 
-pub both-second : (a b : Bool) → both a b ≡ true → b ≡ true
-both-second true b e = e
-both-second false b e = absurd (false≢true e)
+pub both_second : (a b : Bool) → both a b ≡ true → b ≡ true
+both_second true b e = e
+both_second false b e = absurd (false≢true e)
 
 -- a test beside one that is known
 pub both_true : (a : Bool) → both a true ≡ a

@@ -11,11 +11,11 @@ abbrev pub upto : ℕ → (ℕ → Bool) → Bool
 upto zero f = true
 upto (suc n) f = both (f 0) (upto n (λ i. f (suc i)))
 
-pub upto-at : (n : ℕ) (f : ℕ → Bool) → T (upto n f) → (i : ℕ) → i < n → T (f i)
-upto-at zero f t i h = absurd (not-suc-le-zero h)
-upto-at (suc n) f t zero h = both_left (f 0) (upto n (λ i. f (suc i))) t
-upto-at (suc n) f t (suc i) h = upto-at n (λ i. f (suc i)) (both_right (f 0) (upto n (λ i. f (suc i))) t) i (le_of_suc-le-suc h)
+pub upto_at : (n : ℕ) (f : ℕ → Bool) → T (upto n f) → (i : ℕ) → i < n → T (f i)
+upto_at zero f t i h = absurd (not-suc-le-zero h)
+upto_at (suc n) f t zero h = both_left (f 0) (upto n (λ i. f (suc i))) t
+upto_at (suc n) f t (suc i) h = upto_at n (λ i. f (suc i)) (both_right (f 0) (upto n (λ i. f (suc i))) t) i (le_of_suc-le-suc h)
 
 -- a test at every pair of numbers below m and n
-pub grid-at : (m n : ℕ) (f : ℕ → ℕ → Bool) → T (upto m (λ i. upto n (f i))) → (i k : ℕ) → i < m → k < n → T (f i k)
-grid-at m n f t i k h g = upto-at n (f i) (upto-at m (λ i. upto n (f i)) t i h) k g
+pub grid_at : (m n : ℕ) (f : ℕ → ℕ → Bool) → T (upto m (λ i. upto n (f i))) → (i k : ℕ) → i < m → k < n → T (f i k)
+grid_at m n f t i k h g = upto_at n (f i) (upto_at m (λ i. upto n (f i)) t i h) k g

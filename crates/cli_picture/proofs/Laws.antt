@@ -6,30 +6,30 @@ use Prim.Native.Nat.{ℕ, ◌+◌, ◌*◌, ◌/◌, ◌≤◌, ◌<◌}
 use native.Mathlib.Nat.{div-lt_iff_lt-mul, mul-le-mul, zero-div, mul-div-le, le-div_iff_mul-le, mul_comm}
 use native.Mathlib.Omega.{arith}
 use borrow.Author.Tests.{lt-ltb, le-ltb}
-use Rattle.cli_picture.specs.Colours.{shadeOf, channelOf, blueOf, greenOf, redOf}
+use Rattle.cli_picture.specs.Colours.{shade_of, channel_of, blue_of, green_of, red_of}
 
 -- a quotient by more than the density is below 256
-pub below-256 : (density jam : ℕ) → density < jam → 255 * density / jam < 256
-below-256 density jam h = (div-lt_iff_lt-mul {k = jam} {x = 255 * density} {y = 256} (omega arith)).1 (omega arith)
+pub below_256 : (density jam : ℕ) → density < jam → 255 * density / jam < 256
+below_256 density jam h = (div-lt_iff_lt-mul {k = jam} {x = 255 * density} {y = 256} (omega arith)).1 (omega arith)
 
 -- the rows of a picture and its start take at most 32 bits
-pub pixels-few : (row height : ℕ) → row ≤ 65536 → height < 65536 → row * height ≤ 65536 * 65535
-pixels-few row height r h = mul-le-mul {n₁ = row} {m₁ = height} {n₂ = 65536} {m₂ = 65535} r (omega arith)
+pub pixels_few : (row height : ℕ) → row ≤ 65536 → height < 65536 → row * height ≤ 65536 * 65535
+pixels_few row height r h = mul-le-mul {n₁ = row} {m₁ = height} {n₂ = 65536} {m₂ = 65535} r (omega arith)
 
 -- a list of three equal parts
 pub parts : (i b g r b' g' r' : ℕ) → b ≡ b' → g ≡ g' → r ≡ r' → get_or (b ∷ g ∷ r ∷ 0 ∷ []) i 0 ≡ get_or (b' ∷ g' ∷ r' ∷ 0 ∷ []) i 0
 parts i b g r b' g' r' x y z = cc
 
 -- an empty cell has shade 0, and a full one 255
-pub empty-is-0 : (jam : ℕ) → 0 < jam → shadeOf 0 jam ≡ 0
-empty-is-0 jam h = simp (lt-ltb 0 jam h, zero-div jam)
+pub empty_is_0 : (jam : ℕ) → 0 < jam → shade_of 0 jam ≡ 0
+empty_is_0 jam h = simp (lt-ltb 0 jam h, zero-div jam)
 
-pub jam-is-255 : (jam : ℕ) → shadeOf jam jam ≡ 255
-jam-is-255 jam = simp (le-ltb jam jam (omega arith))
+pub jam_is_255 : (jam : ℕ) → shade_of jam jam ≡ 255
+jam_is_255 jam = simp (le-ltb jam jam (omega arith))
 
 -- below jam a denser cell is at least as dark; from jam on the shade is 255, the darkest
-pub shade-rises : (d e jam : ℕ) → d ≤ e → e < jam → shadeOf d jam ≤ shadeOf e jam
-shade-rises d e jam h k =
+pub shade_rises : (d e jam : ℕ) → d ≤ e → e < jam → shade_of d jam ≤ shade_of e jam
+shade_rises d e jam h k =
     let part = mul-div-le (255 * d) jam in
     let turned = mul_comm jam (255 * d / jam) in
     let small : 255 * d / jam ≤ 255 * e / jam =
@@ -37,8 +37,8 @@ shade-rises d e jam h k =
     simp (lt-ltb d jam (omega arith), lt-ltb e jam k) small
 
 -- a part of a colour never rises with the shade, so neither does the brightness
-pub channel-falls : (start s t : ℕ) → s ≤ t → channelOf start t ≤ channelOf start s
-channel-falls start s t h = omega arith
+pub channel_falls : (start s t : ℕ) → s ≤ t → channel_of start t ≤ channel_of start s
+channel_falls start s t h = omega arith
 
-pub brightness-falls : (s t : ℕ) → s ≤ t → redOf t + greenOf t + blueOf t ≤ redOf s + greenOf s + blueOf s
-brightness-falls s t h = omega (arith, channel-falls 0 s t h, channel-falls 85 s t h, channel-falls 170 s t h)
+pub brightness_falls : (s t : ℕ) → s ≤ t → red_of t + green_of t + blue_of t ≤ red_of s + green_of s + blue_of s
+brightness_falls s t h = omega (arith, channel_falls 0 s t h, channel_falls 85 s t h, channel_falls 170 s t h)

@@ -3,18 +3,18 @@ use Rattle.std.specs.Prelude.{ℕ, ◌-◌, ◌*◌, ◌/◌, min, ltb}
 use Rattle.choice.specs.Choice.{pick}
 
 -- 255 × density / jam, rounded down, below jam; 255 at jam and above
-abbrev pub shadeOf : ℕ → ℕ → ℕ
-shadeOf density jam = pick (ltb density jam) (255 * density / jam) 255
+abbrev pub shade_of : ℕ → ℕ → ℕ
+shade_of density jam = pick (ltb density jam) (255 * density / jam) 255
 
 -- a part of a colour: 255 up to the shade where it starts to fall, then 3 less for each shade, down to 0
-abbrev pub channelOf : ℕ → ℕ → ℕ
-channelOf start shade = 255 - min 255 (3 * (shade - start))
+abbrev pub channel_of : ℕ → ℕ → ℕ
+channel_of start shade = 255 - min 255 (3 * (shade - start))
 
-abbrev pub blueOf : ℕ → ℕ
-blueOf = channelOf 0
+abbrev pub blue_of : ℕ → ℕ
+blue_of = channel_of 0
 
-abbrev pub greenOf : ℕ → ℕ
-greenOf = channelOf 85
+abbrev pub green_of : ℕ → ℕ
+green_of = channel_of 85
 
-abbrev pub redOf : ℕ → ℕ
-redOf = channelOf 170
+abbrev pub red_of : ℕ → ℕ
+red_of = channel_of 170

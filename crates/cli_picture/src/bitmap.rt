@@ -1,7 +1,7 @@
 // The start of a bitmap file, before its rows: two letters, thirteen numbers of four bytes each, and the palette.
 ghost use Rattle.std.specs.Prelude.{◌≡◌, ◌<◌, length};
 ghost use Rattle.cli_picture.specs.Listed.{listed};
-ghost use Rattle.cli_picture.specs.Bitmap.{byteOf, headerWord, paletteByte, startByte, letterByte};
+ghost use Rattle.cli_picture.specs.Bitmap.{byte_of, header_word, palette_byte, start_byte, letter_byte};
 
 use super::palette::channel;
 use super::sizes::row_bytes;
@@ -9,7 +9,7 @@ use super::sizes::row_bytes;
 // Byte i of a number, the lowest first.
 pub fn byte_of(n: u32, i: usize) -> u8
     requires { i < 4 }
-    ensures { result ≡ byteOf n i }
+    ensures { result ≡ byte_of n i }
 {
     let bytes = [
         (n % 256) as u8,
@@ -23,7 +23,7 @@ pub fn byte_of(n: u32, i: usize) -> u8
 // Number k of the thirteen that follow the two letters.
 fn header_word(k: usize, width: u16, height: u16) -> u32
     requires { k < 13 }
-    ensures { result ≡ headerWord width height k }
+    ensures { result ≡ header_word width height k }
 {
     let pixels = row_bytes(width) * (height as u32);
     let words = [
@@ -47,7 +47,7 @@ fn header_word(k: usize, width: u16, height: u16) -> u32
 // Byte k of the palette: blue, green, red and a zero for each shade.
 fn palette_byte(k: usize) -> u8
     requires { k < 1024 }
-    ensures { result ≡ paletteByte k }
+    ensures { result ≡ palette_byte k }
 {
     let shade = (k / 4) as u8;
     let parts = [
@@ -62,7 +62,7 @@ fn palette_byte(k: usize) -> u8
 // The letters BM.
 fn letter_byte(at: usize) -> u8
     requires { at < 2 }
-    ensures { result ≡ letterByte at }
+    ensures { result ≡ letter_byte at }
 {
     let letters = [66u8, 77u8];
     letters[at]
@@ -70,7 +70,7 @@ fn letter_byte(at: usize) -> u8
 
 // Byte `at` of a file of width times height pixels, up to its first row.
 pub fn start_byte(width: u16, height: u16, at: usize) -> u8
-    ensures { result ≡ startByte width height at }
+    ensures { result ≡ start_byte width height at }
 {
     if at < 2 {
         letter_byte(at)
@@ -85,7 +85,7 @@ pub fn start_byte(width: u16, height: u16, at: usize) -> u8
 
 // The output then holds the file's bytes from its first one on; 1,078 of them come before the rows.
 pub fn write_start(width: u16, height: u16, out: &mut [u8])
-    ensures { out.new ≡ listed (length out.old) (startByte width height) }
+    ensures { out.new ≡ listed (length out.old) (start_byte width height) }
 {
     let mut i = 0;
     while i < out.len() {

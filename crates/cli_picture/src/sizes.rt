@@ -1,6 +1,6 @@
 // The sizes of a picture: a cell's block of pixels, and a row's bytes.
 ghost use Rattle.std.specs.Prelude.{◌≡◌, ℕ};
-ghost use Rattle.cli_picture.specs.Bitmap.{scale_of, rowBytes};
+ghost use Rattle.cli_picture.specs.Bitmap.{scale_of, row_bytes};
 
 // How many pixels each of `count` steps or cells takes, so that all of them come to about `target`: from 1 to 32.
 pub fn scale(count: u32, target: u32) -> u32
@@ -21,7 +21,7 @@ pub fn scale(count: u32, target: u32) -> u32
 
 // A row's bytes: one a pixel, filled up to a multiple of four.
 pub fn row_bytes(width: u16) -> u32
-    ensures { result ≡ rowBytes width }
+    ensures { result ≡ row_bytes width }
 {
     (width as u32 + 3) / 4 * 4
 }

@@ -20,27 +20,27 @@ part start end text = take (end - start) (drop start text)
 
 module _ (mark : ℕ) where
   -- the first piece with a byte before it, and the others
-  grown-cut : (b : ℕ) (bs : List ℕ) → grown b (split mark bs) ≡ (b ∷ take (before mark bs) bs) ∷ remaining mark (suc (before mark bs)) bs
+  grown_cut : (b : ℕ) (bs : List ℕ) → grown b (split mark bs) ≡ (b ∷ take (before mark bs) bs) ∷ remaining mark (suc (before mark bs)) bs
   unfolding before split grown
-  grown-cut b [] = refl
-  grown-cut b (c ∷ cs) = by-test (cuts mark c) (grown-cut c cs)
+  grown_cut b [] = refl
+  grown_cut b (c ∷ cs) = by_test (cuts mark c) (grown_cut c cs)
     where
-      by-test : (t : Bool) → grown c (split mark cs) ≡ (c ∷ take (before mark cs) cs) ∷ remaining mark (suc (before mark cs)) cs
+      by_test : (t : Bool) → grown c (split mark cs) ≡ (c ∷ take (before mark cs) cs) ∷ remaining mark (suc (before mark cs)) cs
           → grown b (pick t ([] ∷ split mark cs) (grown c (split mark cs)))
           ≡ (b ∷ take (pick t 0 (suc (before mark cs))) (c ∷ cs)) ∷ remaining mark (suc (pick t 0 (suc (before mark cs)))) (c ∷ cs)
-      by-test true e = refl
-      by-test false e = ap (grown b) e
+      by_test true e = refl
+      by_test false e = ap (grown b) e
 
   -- the first piece, and the others
-  pub first-cut : (text : List ℕ) → 0 < length text → split mark text ≡ take (before mark text) text ∷ remaining mark (suc (before mark text)) text
+  pub first_cut : (text : List ℕ) → 0 < length text → split mark text ≡ take (before mark text) text ∷ remaining mark (suc (before mark text)) text
   unfolding before split
-  first-cut [] h = absurd (not-suc-le-zero h)
-  first-cut (b ∷ bs) h = by-test (cuts mark b)
+  first_cut [] h = absurd (not-suc-le-zero h)
+  first_cut (b ∷ bs) h = by_test (cuts mark b)
     where
-      by-test : (t : Bool) → pick t ([] ∷ split mark bs) (grown b (split mark bs))
+      by_test : (t : Bool) → pick t ([] ∷ split mark bs) (grown b (split mark bs))
           ≡ take (pick t 0 (suc (before mark bs))) (b ∷ bs) ∷ remaining mark (suc (pick t 0 (suc (before mark bs)))) (b ∷ bs)
-      by-test true = refl
-      by-test false = grown-cut b bs
+      by_test true = refl
+      by_test false = grown_cut b bs
 
   module _ (text : List ℕ) (at end : ℕ) (h : at < length text) (e : PieceEnds text at mark end) where
     -- the piece that starts at a place, and the others
@@ -50,7 +50,7 @@ module _ (mark : ℕ) where
         let some : 0 < length (drop at text) = omega (arith, length-drop at text) in
         let size : end - at ≡ k = omega (arith, e.at) in
         let next : at + suc k ≡ end + 1 = omega (arith, e.at) in
-        rw (size, ← next, ← drop-drop (suc k) at text) (first-cut (drop at text) some)
+        rw (size, ← next, ← drop-drop (suc k) at text) (first_cut (drop at text) some)
 
   -- no piece starts past the end
   pub none_left : (text : List ℕ) (at : ℕ) → length text ≤ at → remaining mark at text ≡ []

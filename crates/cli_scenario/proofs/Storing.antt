@@ -11,56 +11,56 @@ use lib.ListN.{length, set, length-set, length-append}
 use lib.Seq.{set_out}
 use Rattle.cli_scenario.specs.Values.{overlaid, Stored}
 
-pub length-overlaid : (out : List ℕ) (k : ℕ) (vs : List ℕ) → length (overlaid out k vs) ≡ length out
+pub length_overlaid : (out : List ℕ) (k : ℕ) (vs : List ℕ) → length (overlaid out k vs) ≡ length out
 unfolding overlaid
-length-overlaid out k [] = refl
-length-overlaid out k (v ∷ vs) = length-overlaid (set out k v) (suc k) vs ∙ length-set out k v
+length_overlaid out k [] = refl
+length_overlaid out k (v ∷ vs) = length_overlaid (set out k v) (suc k) vs ∙ length-set out k v
 
 -- nothing is written past the end
-overlaid-out : (out : List ℕ) (k : ℕ) (vs : List ℕ) → length out ≤ k → overlaid out k vs ≡ out
+overlaid_out : (out : List ℕ) (k : ℕ) (vs : List ℕ) → length out ≤ k → overlaid out k vs ≡ out
 unfolding overlaid
-overlaid-out out k [] h = refl
-overlaid-out out k (v ∷ vs) h =
-    rw (set_out out k v h) (overlaid-out out (suc k) vs (omega arith))
+overlaid_out out k [] h = refl
+overlaid_out out k (v ∷ vs) h =
+    rw (set_out out k v h) (overlaid_out out (suc k) vs (omega arith))
 
-overlaid-append : (out : List ℕ) (k : ℕ) (vs ws : List ℕ) → overlaid out k (vs ++ ws) ≡ overlaid (overlaid out k vs) (k + length vs) ws
+overlaid_append : (out : List ℕ) (k : ℕ) (vs ws : List ℕ) → overlaid out k (vs ++ ws) ≡ overlaid (overlaid out k vs) (k + length vs) ws
 unfolding overlaid
-overlaid-append out k [] ws = ap (λ (n : ℕ). overlaid out n ws) (omega arith)
-overlaid-append out k (v ∷ vs) ws =
-    overlaid-append (set out k v) (suc k) vs ws
+overlaid_append out k [] ws = ap (λ (n : ℕ). overlaid out n ws) (omega arith)
+overlaid_append out k (v ∷ vs) ws =
+    overlaid_append (set out k v) (suc k) vs ws
     ∙ ap (λ (n : ℕ). overlaid (overlaid (set out k v) (suc k) vs) n ws) (omega arith)
 
 module _ {out next : List ℕ} {k r : ℕ} {vs : List ℕ} (s : Stored out next k vs r) where
-  pub stored-length : length next ≡ length out
-  stored-length = ap length s.list ∙ length-overlaid out k vs
+  pub stored_length : length next ≡ length out
+  stored_length = ap length s.list ∙ length_overlaid out k vs
 
-  pub stored-room : r ≤ length next
-  stored-room = let l = stored-length in let f = s.filled in omega arith
+  pub stored_room : r ≤ length next
+  stored_room = let l = stored_length in let f = s.filled in omega arith
 
   -- two in a row
   pub stored_more : {last : List ℕ} {q : ℕ} (ws : List ℕ) → Stored next last r ws q → Stored out last k (vs ++ ws) q
   stored_more {last} {q} ws t =
       record {
-        list = t.list ∙ ap (λ (l : List ℕ). overlaid l r ws) s.list ∙ same_end ∙ sym (overlaid-append out k vs ws);
-        filled = omega (arith, stored-length, s.filled, t.filled, length-append vs ws);
+        list = t.list ∙ ap (λ (l : List ℕ). overlaid l r ws) s.list ∙ same_end ∙ sym (overlaid_append out k vs ws);
+        filled = omega (arith, stored_length, s.filled, t.filled, length-append vs ws);
       }
     where
       -- where the list is full, nothing more is written
       same_end : overlaid (overlaid out k vs) r ws ≡ overlaid (overlaid out k vs) (k + length vs) ws
-      same_end = by-test (leb (k + length vs) (length out)) refl
+      same_end = by_test (leb (k + length vs) (length out)) refl
         where
-          by-test : (t : Bool) → leb (k + length vs) (length out) ≡ t
+          by_test : (t : Bool) → leb (k + length vs) (length out) ≡ t
               → overlaid (overlaid out k vs) r ws ≡ overlaid (overlaid out k vs) (k + length vs) ws
-          by-test true e = ap (λ (n : ℕ). overlaid (overlaid out k vs) n ws) (s.filled ∙ min-eq_left (leb-true _ _ e))
-          by-test false e =
+          by_test true e = ap (λ (n : ℕ). overlaid (overlaid out k vs) n ws) (s.filled ∙ min-eq_left (leb-true _ _ e))
+          by_test false e =
               let full : length out < k + length vs = leb-false _ _ e in
-              overlaid-out (overlaid out k vs) r ws (omega (arith, length-overlaid out k vs, s.filled))
-              ∙ sym (overlaid-out (overlaid out k vs) (k + length vs) ws (omega (arith, length-overlaid out k vs)))
+              overlaid_out (overlaid out k vs) r ws (omega (arith, length_overlaid out k vs, s.filled))
+              ∙ sym (overlaid_out (overlaid out k vs) (k + length vs) ws (omega (arith, length_overlaid out k vs)))
 
 -- nothing stored, and one value
-pub stored-nothing : (out : List ℕ) (k : ℕ) → k ≤ length out → Stored out out k [] k
+pub stored_nothing : (out : List ℕ) (k : ℕ) → k ≤ length out → Stored out out k [] k
 unfolding overlaid
-stored-nothing out k h = record { list = refl; filled = omega arith }
+stored_nothing out k h = record { list = refl; filled = omega arith }
 
 pub stored_one : (out : List ℕ) (k v : ℕ) → k < length out → Stored out (set out k v) k (v ∷ []) (k + 1)
 unfolding overlaid
@@ -78,14 +78,14 @@ begins whole out k h = record { room = h; long = refl; completes = λ next r s. 
 module _ {rest whole start out : List ℕ} {k at : ℕ} (now : ValuesStored rest whole k start out at) where
   pub turns : (here later next : List ℕ) (r : ℕ) → rest ≡ here ++ later → Stored out next at here r → ValuesStored later whole k start next r
   turns here later next r e s = record {
-    room = stored-room s;
-    long = stored-length s ∙ now.long;
+    room = stored_room s;
+    long = stored_length s ∙ now.long;
     completes = λ last q t. now.completes last q (rw e (stored_more s later t));
   }
 
   pub ends : rest ≡ [] → Stored start out k whole at
-  ends e = now.completes out at (rw e (stored-nothing out at now.room))
+  ends e = now.completes out at (rw e (stored_nothing out at now.room))
 
   -- a full list takes nothing more
   pub stops : length out ≤ at → Stored start out k whole at
-  stops h = now.completes out at (record { list = sym (overlaid-out out at rest h); filled = omega (arith, now.room) })
+  stops h = now.completes out at (record { list = sym (overlaid_out out at rest h); filled = omega (arith, now.room) })

@@ -2,12 +2,12 @@
 use Rattle.std.specs.Prelude.{List, ℕ, ◌-◌, eqb, take, drop}
 use Rattle.choice.specs.Choice.{pick}
 use Rattle.cli_vocabulary.specs.Pieces.{hash, before, first_word}
-use Rattle.cli_vocabulary.specs.Keys.{keyCode, noKey}
+use Rattle.cli_vocabulary.specs.Keys.{key_code, key_none}
 use Rattle.cli_scenario.specs.declared.finding.Head.{Head}
 
 -- the key of the word from start up to end; none where nothing stands there
 unfoldable pub key_at : List ℕ → ℕ → ℕ → ℕ
-key_at line start end = pick (eqb start end) noKey (keyCode (take (end - start) (drop start line)))
+key_at line start end = pick (eqb start end) key_none (key_code (take (end - start) (drop start line)))
 
 -- what stands before a line's comment
 abbrev pub body : List ℕ → List ℕ

@@ -3,7 +3,7 @@ use Rattle.std.specs.Prelude.{◌≡◌, List, [], ◌∷◌, ◌++◌, ℕ, zer
 use Rattle.choice.specs.Choice.{pick}
 use Rattle.cli_vocabulary.specs.Pieces.{lines, words}
 use Rattle.cli_vocabulary.specs.Items.{item_of}
-use Rattle.cli_vocabulary.specs.Keys.{keyCode, key_of}
+use Rattle.cli_vocabulary.specs.Keys.{key_code, key_of}
 
 -- x, n times
 unfoldable pub repeated : ℕ → ℕ → List ℕ
@@ -11,14 +11,14 @@ repeated zero x = []
 repeated (suc n) x = x ∷ repeated n x
 
 -- the values that words stand for
-unfoldable pub allValues : ℕ → List (List ℕ) → List ℕ
-allValues key [] = []
-allValues key (w ∷ ws) = repeated (item_of key w).times (item_of key w).value ++ allValues key ws
+unfoldable pub all_values : ℕ → List (List ℕ) → List ℕ
+all_values key [] = []
+all_values key (w ∷ ws) = repeated (item_of key w).times (item_of key w).value ++ all_values key ws
 
 -- what a line gives to a key
 unfoldable pub given : ℕ → List (List ℕ) → List ℕ
 given key [] = []
-given key (w ∷ ws) = pick (eqb (keyCode w) key) (allValues key ws) []
+given key (w ∷ ws) = pick (eqb (key_code w) key) (all_values key ws) []
 
 -- what several lines give to a key
 unfoldable pub gathered : ℕ → List (List ℕ) → List ℕ

@@ -1,7 +1,7 @@
 // The judgement of a text: the first thing wrong with it, its line, and that line's key.
 ghost use Rattle.std.specs.Prelude.{◌≡◌, ◌<◌, ◌^◌, length};
-ghost use Rattle.cli_vocabulary.specs.Pieces.{words_in, filledPiece};
-ghost use Rattle.cli_scenario.specs.Judging.{wrongValue, wrongNumber, wrongValues, wrongLine, wrongAfter, judgedLine, toldKey, verdictOf, verdict};
+ghost use Rattle.cli_vocabulary.specs.Pieces.{words_in, filled_piece};
+ghost use Rattle.cli_scenario.specs.Judging.{wrong_value, wrong_number, wrong_values, wrong_line, wrong_after, judged_line, told_key, verdict_of, verdict};
 
 use super::finding::head_of;
 use cli_vocabulary::codes::END;
@@ -30,7 +30,7 @@ const LINE: usize = 4096;
 
 // What is wrong with one word as a value of a key (3 or 4, as in a verdict; 0: nothing); nothing with an empty one.
 pub fn wrong_word(word: &[u8], key: u8) -> u32
-    ensures { result ≡ wrongValue key (filledPiece word.now) }
+    ensures { result ≡ wrong_value key (filled_piece word.now) }
 {
     if word.len() == 0 {
         return 0;
@@ -40,7 +40,7 @@ pub fn wrong_word(word: &[u8], key: u8) -> u32
 
 // Internal: the first thing wrong with the values of a part.
 fn wrong_value(part: &[u8], key: u8) -> u32
-    ensures { result ≡ wrongValue key (words_in part.now) }
+    ensures { result ≡ wrong_value key (words_in part.now) }
 {
     let mut at = 0;
     while at < part.len() {
@@ -56,7 +56,7 @@ fn wrong_value(part: &[u8], key: u8) -> u32
 
 // Internal: 1 for a word, 0 for an empty piece.
 fn one_word(word: &[u8]) -> usize
-    ensures { result ≡ length (filledPiece word.now) }
+    ensures { result ≡ length (filled_piece word.now) }
 {
     if word.len() == 0 { 0 } else { 1 }
 }
@@ -77,7 +77,7 @@ fn count_words(part: &[u8]) -> usize
 
 // Internal: whether a line of a key has another number of values than the key takes.
 fn wrong_number(key: u8, n: usize) -> bool
-    ensures { result ≡ wrongNumber key n }
+    ensures { result ≡ wrong_number key n }
 {
     if key_of(key).list {
         n == 0
@@ -88,7 +88,7 @@ fn wrong_number(key: u8, n: usize) -> bool
 
 // Internal: what is wrong with the values of a known key: their number, then the first wrong value.
 fn wrong_values(part: &[u8], key: u8) -> u32
-    ensures { result ≡ wrongValues key (words_in part.now) }
+    ensures { result ≡ wrong_values key (words_in part.now) }
 {
     if wrong_number(key, count_words(part)) {
         5
@@ -99,7 +99,7 @@ fn wrong_values(part: &[u8], key: u8) -> u32
 
 // Internal: what is wrong with a line by itself.
 fn wrong_line(line: &[u8]) -> u32
-    ensures { result ≡ wrongLine line.now }
+    ensures { result ≡ wrong_line line.now }
 {
     if LINE < line.len() {
         return 1;
@@ -118,7 +118,7 @@ fn wrong_line(line: &[u8]) -> u32
 
 // Internal: what is wrong with a line after others: words after `end`, then its own fault, then its key given again.
 fn wrong_after(ended: bool, given: bool, key: u8, own: u32) -> u32
-    ensures { result ≡ wrongAfter ended given key own }
+    ensures { result ≡ wrong_after ended given key own }
 {
     if key == NO_KEY {
         own
@@ -138,7 +138,7 @@ fn wrong_after(ended: bool, given: bool, key: u8, own: u32) -> u32
 // Internal: the judgement one line on.
 fn judge_line(p: Progress, line: &[u8]) -> Progress
     requires { p.line < 2 ^ 63 }
-    ensures { result ≡ judgedLine p line.now }
+    ensures { result ≡ judged_line p line.now }
 {
     let own = wrong_line(line);
     let key = head_of(line).key;
@@ -158,14 +158,14 @@ fn judge_line(p: Progress, line: &[u8]) -> Progress
 
 // Internal: the key that a verdict names.
 fn told_key(key: u8) -> u8
-    ensures { result ≡ toldKey key }
+    ensures { result ≡ told_key key }
 {
     if key == NO_KEY { UNKNOWN } else { key }
 }
 
 // Internal: what the lines come to.
 fn outcome(p: Progress) -> Verdict
-    ensures { result ≡ verdictOf p }
+    ensures { result ≡ verdict_of p }
 {
     let end = END as usize;
     if p.what != 0 {

@@ -1,7 +1,7 @@
 // The values of a key: what its lines give, one after the other, stored at the start of a list.
 ghost use Rattle.std.specs.Prelude.{◌≡◌, ◌≤◌, length};
-ghost use Rattle.cli_vocabulary.specs.Pieces.{filledPiece, words_in, words};
-ghost use Rattle.cli_scenario.specs.Values.{repeated, allValues, given, values_of, Stored};
+ghost use Rattle.cli_vocabulary.specs.Pieces.{filled_piece, words_in, words};
+ghost use Rattle.cli_scenario.specs.Values.{repeated, all_values, given, values_of, Stored};
 
 use super::finding::head_of;
 use cli_vocabulary::{BLANK, NEWLINE, item_of, piece_end};
@@ -27,7 +27,7 @@ fn append(out: &mut [u64], filled: usize, value: u64, times: u64) -> usize
 // Internal: the values of one word stored; an empty one has none.
 fn store_word(word: &[u8], key: u8, out: &mut [u64], filled: usize) -> usize
     requires { filled ≤ length out.old }
-    ensures { Stored out.old out.new filled (allValues key (filledPiece word.now)) result }
+    ensures { Stored out.old out.new filled (all_values key (filled_piece word.now)) result }
 {
     if word.len() == 0 {
         return filled;
@@ -39,7 +39,7 @@ fn store_word(word: &[u8], key: u8, out: &mut [u64], filled: usize) -> usize
 // Internal: the values of all words of a part stored.
 fn store_words(part: &[u8], key: u8, out: &mut [u64], filled: usize) -> usize
     requires { filled ≤ length out.old }
-    ensures { Stored out.old out.new filled (allValues key (words_in part.now)) result }
+    ensures { Stored out.old out.new filled (all_values key (words_in part.now)) result }
 {
     let mut filled = filled;
     let mut at = 0;

@@ -4,7 +4,7 @@ use mathlib.Core.List.{List, [], ◌∷◌, map}
 use Prim.Native.Nat.{ℕ, zero, suc, ◌≤◌, ◌<◌}
 use native.Mathlib.Nat.{le_of_suc-le-suc, not-suc-le-zero}
 use lib.ListN.{length, get_or, get_or-eq_default}
-use Rattle.cli_vocabulary.specs.Keys.{table, none, keyRow, keyCount}
+use Rattle.cli_vocabulary.specs.Keys.{table, none, key_row, key_count}
 use Rattle.cli_vocabulary.specs.declared.keys.Key.{Key}
 use Rattle.cli_vocabulary.specs.declared.keys.Row.{Row}
 
@@ -21,10 +21,10 @@ told_at [] other i h = absurd (not-suc-le-zero h)
 told_at (k ∷ ks) other zero h = refl
 told_at (k ∷ ks) other (suc i) h = told_at ks other i (le_of_suc-le-suc h)
 
-pub rows-counted : length table ≡ keyCount
+pub rows_counted : length table ≡ key_count
 unfolding table
-rows-counted = refl
+rows_counted = refl
 
-pub no_key : (code : ℕ) → keyCount ≤ code → none ≡ keyRow code
-unfolding keyRow
-no_key code h = sym (get_or-eq_default table none (rw rows-counted h))
+pub no_key : (code : ℕ) → key_count ≤ code → none ≡ key_row code
+unfolding key_row
+no_key code h = sym (get_or-eq_default table none (rw rows_counted h))

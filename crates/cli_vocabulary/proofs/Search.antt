@@ -20,27 +20,27 @@ pub record PlaceSought {A : Type 0} (test : A → Bool) (xs : List A) (place i :
   pub rest : i + until test (drop i xs) ≡ place
 
 module _ {A : Type 0} (test : A → Bool) where
-  choice-bound : (t : Bool) (m n : ℕ) → m ≤ n → pick t 0 (suc m) ≤ suc n
-  choice-bound true m n h = zero-le
-  choice-bound false m n h = suc-le-suc h
+  choice_bound : (t : Bool) (m n : ℕ) → m ≤ n → pick t 0 (suc m) ≤ suc n
+  choice_bound true m n h = zero-le
+  choice_bound false m n h = suc-le-suc h
 
   -- the place is within the list
-  pub until-bound : (xs : List A) → until test xs ≤ length xs
+  pub until_bound : (xs : List A) → until test xs ≤ length xs
   unfolding until
-  until-bound [] = zero-le
-  until-bound (x ∷ xs) = choice-bound (test x) (until test xs) (length xs) (until-bound xs)
+  until_bound [] = zero-le
+  until_bound (x ∷ xs) = choice_bound (test x) (until test xs) (length xs) (until_bound xs)
 
   module _ (d : A) (xs : List A) (place i : ℕ) (now : PlaceSought test xs place i) where
     -- the search from i on, by the test there
-    from-here : i < length xs → until test (drop i xs) ≡ pick (test (get_or xs i d)) 0 (suc (until test (drop (suc i) xs)))
+    from_here : i < length xs → until test (drop i xs) ≡ pick (test (get_or xs i d)) 0 (suc (until test (drop (suc i) xs)))
     unfolding until
-    from-here h = rw (drop-cons xs i d h)
+    from_here h = rw (drop-cons xs i d h)
 
     pub found : i < length xs → test (get_or xs i d) ≡ true → i ≡ place
-    found h e = let here = rw e at (from-here h) in omega (arith, now.rest)
+    found h e = let here = rw e at (from_here h) in omega (arith, now.rest)
 
     turn : i < length xs → test (get_or xs i d) ≡ false → PlaceSought test xs place (suc i)
-    turn h e = let on = rw e at (from-here h) in record { inside = h; rest = omega (arith, now.rest) }
+    turn h e = let on = rw e at (from_here h) in record { inside = h; rest = omega (arith, now.rest) }
 
     pub turns : i < length xs → test (get_or xs i d) ≡ false → PlaceSought test xs place (i + 1)
     turns = rw (add-one i) turn

@@ -56,45 +56,45 @@ abbrev pub none : Key
 none = row "          " false 0 number
 
 -- what there is to say of a key
-unfoldable pub keyRow : ℕ → Key
-keyRow code = get_or table code none
+unfoldable pub key_row : ℕ → Key
+key_row code = get_or table code none
 
--- how many keywords there are: the table's rows (`rows-counted`)
-abbrev pub keyCount : ℕ
-keyCount = 26
+-- how many keywords there are: the table's rows (`rows_counted`)
+abbrev pub key_count : ℕ
+key_count = 26
 
 -- whether a word, padded with blanks, is the name
-unfoldable pub isName : List ℕ → List ℕ → Bool
-isName [] [] = true
-isName (b ∷ bs) [] = false
-isName [] (c ∷ cs) = both (eqb 32 c) (isName [] cs)
-isName (b ∷ bs) (c ∷ cs) = both (eqb b c) (isName bs cs)
+unfoldable pub is_name : List ℕ → List ℕ → Bool
+is_name [] [] = true
+is_name (b ∷ bs) [] = false
+is_name [] (c ∷ cs) = both (eqb 32 c) (is_name [] cs)
+is_name (b ∷ bs) (c ∷ cs) = both (eqb b c) (is_name bs cs)
 
 -- the place of the first row that has a word for its name; the number of rows where none has
 unfoldable pub place_in : List Key → List ℕ → ℕ
 place_in [] word = 0
-place_in (k ∷ ks) word = pick (isName word k.name) 0 (suc (place_in ks word))
+place_in (k ∷ ks) word = pick (is_name word k.name) 0 (suc (place_in ks word))
 
 -- a word's key
-unfoldable pub keyCode : List ℕ → ℕ
-keyCode word = place_in table word
+unfoldable pub key_code : List ℕ → ℕ
+key_code word = place_in table word
 
 -- the keys whose meaning is no row's: a word's values are letters too, and nothing stands after an end
-abbrev pub wordKey : ℕ
-wordKey = 6
+abbrev pub word_key : ℕ
+word_key = 6
 
-abbrev pub endKey : ℕ
-endKey = 17
+abbrev pub end_key : ℕ
+end_key = 17
 
 -- the key of a word that is no keyword
-abbrev pub unknownKey : ℕ
-unknownKey = keyCount
+abbrev pub unknown_key : ℕ
+unknown_key = key_count
 
 -- the key of a line without words
-abbrev pub noKey : ℕ
-noKey = keyCount + 1
+abbrev pub key_none : ℕ
+key_none = key_count + 1
 
 -- a line's key: that of its first word
 unfoldable pub key_of : List (List ℕ) → ℕ
-key_of [] = noKey
-key_of (w ∷ ws) = keyCode w
+key_of [] = key_none
+key_of (w ∷ ws) = key_code w

@@ -17,12 +17,12 @@ abbrev pub caret : ℕ
 caret = 94
 
 -- space, tab and carriage return are blanks
-abbrev pub isBlank : ℕ → Bool
-isBlank b = or (eqb b blank) (or (eqb b 9) (eqb b 13))
+abbrev pub is_blank : ℕ → Bool
+is_blank b = or (eqb b blank) (or (eqb b 9) (eqb b 13))
 
 -- whether a byte is the mark that a text is cut at
 abbrev pub cuts : ℕ → ℕ → Bool
-cuts mark b = pick (eqb mark blank) (isBlank b) (eqb b mark)
+cuts mark b = pick (eqb mark blank) (is_blank b) (eqb b mark)
 
 -- how many bytes stand before the first mark; all where there is none
 unfoldable pub before : ℕ → List ℕ → ℕ
@@ -52,8 +52,8 @@ filled ([] ∷ ps) = filled ps
 filled ((b ∷ bs) ∷ ps) = (b ∷ bs) ∷ filled ps
 
 -- a piece among others, none where it is empty
-abbrev pub filledPiece : List ℕ → List (List ℕ)
-filledPiece p = filled (p ∷ [])
+abbrev pub filled_piece : List ℕ → List (List ℕ)
+filled_piece p = filled (p ∷ [])
 
 -- the lines of a text
 abbrev pub lines : List ℕ → List (List ℕ)
@@ -70,7 +70,7 @@ words line = words_in (take (before hash line) line)
 -- how many blanks a text starts with
 unfoldable pub leading : List ℕ → ℕ
 leading [] = 0
-leading (b ∷ bs) = pick (isBlank b) (suc (leading bs)) 0
+leading (b ∷ bs) = pick (is_blank b) (suc (leading bs)) 0
 
 -- where the first word stands; an empty place at the end where there is none
 unfoldable pub first_word : List ℕ → Part

@@ -1,6 +1,6 @@
 // Values: what one word of a line stands for, a value taken a number of times.
 ghost use Rattle.std.specs.Prelude.{◌≡◌};
-ghost use Rattle.cli_vocabulary.specs.Items.{code_of, letterOf, plain_of, timesOf, once, run_of, item_of};
+ghost use Rattle.cli_vocabulary.specs.Items.{code_of, letter_of, plain_of, times_of, once, run_of, item_of};
 
 use super::codes::WORD;
 use super::keys::key_of;
@@ -17,7 +17,7 @@ pub struct Item {
 
 // Internal: the code of a letter, one byte alone.
 fn letter(word: &[u8]) -> Number
-    ensures { result ≡ letterOf word.now }
+    ensures { result ≡ letter_of word.now }
 {
     if word.len() != 1 {
         return Number { what: 3, value: 0 };
@@ -58,7 +58,7 @@ fn plain(key: u8, word: &[u8]) -> Number
 
 // Internal: a value taken a number of times, or what is wrong with either.
 fn taken(plain: Number, times: Number) -> Item
-    ensures { result ≡ timesOf plain times }
+    ensures { result ≡ times_of plain times }
 {
     if plain.what != 0 {
         Item {
@@ -83,7 +83,7 @@ fn taken(plain: Number, times: Number) -> Item
 
 // Internal: a value that stands once.
 fn single(key: u8, word: &[u8]) -> Item
-    ensures { result ≡ timesOf (plain_of key word.now) once }
+    ensures { result ≡ times_of (plain_of key word.now) once }
 {
     taken(plain(key, word), Number { what: 0, value: 1 })
 }

@@ -1,6 +1,6 @@
 // Keys: the keywords of a scenario, one row each; what no keyword is has a row too.
 ghost use Rattle.std.specs.Prelude.{◌≡◌, ◌<◌, get_or};
-ghost use Rattle.cli_vocabulary.specs.Keys.{keyCount, keyRow, isName, keyCode};
+ghost use Rattle.cli_vocabulary.specs.Keys.{key_count, key_row, is_name, key_code};
 
 // What a scenario's text says of a key: its keyword in ASCII, padded with blanks to ten letters; whether its lines are joined
 // to a list; how many values a line takes, 0 of a list, whose line takes one or more; the largest number.
@@ -74,7 +74,7 @@ pub const CODES: usize = KEYS + 2;
 
 // What there is to say of a key; what is no key has a name of blanks and takes no values.
 pub fn key_of(code: u8) -> Key
-    ensures { result ≡ keyRow code }
+    ensures { result ≡ key_row code }
 {
     let k = code as usize;
     if KEYS <= k {
@@ -99,8 +99,8 @@ fn letter_at(word: &[u8], i: usize) -> u8
 
 // Internal: whether a word is the keyword of a key.
 fn is_name(word: &[u8], code: u8) -> bool
-    requires { code < keyCount }
-    ensures { result ≡ isName word.now (keyRow code).name }
+    requires { code < key_count }
+    ensures { result ≡ is_name word.now (key_row code).name }
 {
     let name = key_of(code).name;
     let mut i = 0;
@@ -115,7 +115,7 @@ fn is_name(word: &[u8], code: u8) -> bool
 
 // Internal: a word's key, or UNKNOWN.
 pub fn key_code(word: &[u8]) -> u8
-    ensures { result ≡ keyCode word.now }
+    ensures { result ≡ key_code word.now }
 {
     let mut code = 0;
     while code < UNKNOWN {

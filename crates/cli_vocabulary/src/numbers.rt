@@ -1,6 +1,6 @@
 // Numbers: whole and decimal, of digits alone, refused before they could overflow.
 ghost use Rattle.std.specs.Prelude.{◌≡◌, true, ◌+◌, ◌*◌, ltb};
-ghost use Rattle.cli_vocabulary.specs.Numbers.{isDigit, is_number, allDigits, decimalFrom, at_most, number_of};
+ghost use Rattle.cli_vocabulary.specs.Numbers.{is_digit, is_number, all_digits, decimal_from, at_most, number_of};
 
 // A number, and what is wrong with it: 0, nothing; 3, the word is no number; 4, it is too large. Where something is
 // wrong the number is 0.
@@ -12,14 +12,14 @@ pub struct Number {
 
 // Internal: 0 to 9.
 fn is_digit(b: u8) -> bool
-    ensures { result ≡ isDigit b }
+    ensures { result ≡ is_digit b }
 {
     if 48 <= b { b <= 57 } else { false }
 }
 
 // Internal: digits alone.
 fn all_digits(word: &[u8]) -> bool
-    ensures { result ≡ allDigits word.now }
+    ensures { result ≡ all_digits word.now }
 {
     let mut i = 0;
     while i < word.len() {
@@ -55,8 +55,8 @@ fn is_past(most: u64, value: u64, digit: u64) -> bool
 
 // Internal: the number that digits write, or that it is more than the most.
 fn decimal(word: &[u8], most: u64) -> Number
-    requires { allDigits word.now ≡ true }
-    ensures { result ≡ at_most most (decimalFrom 0 word.now) }
+    requires { all_digits word.now ≡ true }
+    ensures { result ≡ at_most most (decimal_from 0 word.now) }
 {
     let mut value: u64 = 0;
     let mut i = 0;

@@ -1,6 +1,6 @@
 // Lines and words: where a piece of a text ends.
 ghost use Rattle.std.specs.Prelude.{◌≡◌, ◌≤◌, length};
-ghost use Rattle.cli_vocabulary.specs.Pieces.{isBlank, cuts, PieceEnds, leading, first_word};
+ghost use Rattle.cli_vocabulary.specs.Pieces.{is_blank, cuts, PieceEnds, leading, first_word};
 
 // The marks that a text is cut at. A blank stands for a space, a tab or a carriage return.
 pub const NEWLINE: u8 = 10;
@@ -20,7 +20,7 @@ pub struct Part {
 
 // Internal: whether a byte is a space, a tab or a carriage return.
 fn is_blank(b: u8) -> bool
-    ensures { result ≡ isBlank b }
+    ensures { result ≡ is_blank b }
 {
     choice::either(b == BLANK, choice::either(b == 9, b == 13))
 }

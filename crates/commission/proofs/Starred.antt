@@ -1,60 +1,60 @@
 -- The starred cases hold: each is computed from the definitions.
 use mathlib.Core.Path.{refl}
-use Rattle.refusal.specs.Table.{orIf}
-use Rattle.road.specs.Judgement.{roadRefusal}
-use Rattle.flux.specs.Face.{sending, receiving, numerator, units, scaled, inW, inL, letter}
-use Rattle.checks.specs.Values.{firstAbove}
+use Rattle.refusal.specs.Table.{or_if}
+use Rattle.road.specs.Judgement.{road_refusal}
+use Rattle.flux.specs.Face.{sending, receiving, numerator, units, scaled, in_w, in_l, letter}
+use Rattle.checks.specs.Values.{first_index_above}
 use Rattle.scheme.specs.Advance.{ahead, advance, outflow, entering, leaving, stepped}
 use Rattle.scheme.specs.Sums.{same_list}
 use Rattle.scheme.specs.Word.{word_of}
 use Rattle.scheme.specs.Runs.{iterated}
-use Rattle.scheme.specs.Rounded.{roundRun, entered, left}
-use Rattle.scheme.specs.Settling.{still, settles, settleSteps, settleCells}
-use Rattle.forecast.specs.Forecast.{forecastRefusal, forecastAnswer, forecastCells}
-use Rattle.forecast.specs.Settle.{settleRefusal, settleAnswer, settleOutput}
-use Rattle.modes.specs.Modes.{mode_of, modesOf}
-use Rattle.rows.specs.Rows.{rowTable, row_of, terms, dot, rowValue, rowNumerators}
-use Rattle.words.specs.Words.{illegalPair, offends, firstOffence, legal}
-use Rattle.counting.specs.WordCount.{turned, wordCount}
-use Rattle.modes.specs.Judging.{readRefusal}
-use Rattle.rows.specs.Judging.{predictRefusal}
-use Rattle.modes.specs.Reading.{readLetters, readModes}
+use Rattle.scheme.specs.Rounded.{round_run, entered, left}
+use Rattle.scheme.specs.Settling.{still, settles, settle_steps, settle_cells}
+use Rattle.forecast.specs.Forecast.{forecast_refusal, forecast_answer, forecast_cells}
+use Rattle.forecast.specs.Settle.{settle_refusal, settle_answer, settle_output}
+use Rattle.modes.specs.Modes.{mode_of, modes_of}
+use Rattle.rows.specs.Rows.{row_table, row_of, terms, dot, row_value, row_numerators}
+use Rattle.words.specs.Words.{illegal_pair, offends, first_offence, legal}
+use Rattle.counting.specs.WordCount.{turned, word_count}
+use Rattle.modes.specs.Judging.{read_refusal}
+use Rattle.rows.specs.Judging.{predict_refusal}
+use Rattle.modes.specs.Reading.{read_letters, read_modes}
 use Rattle.rows.specs.Prediction.{predicted}
-use Rattle.counting.specs.Count.{countRefusal, countAnswer}
+use Rattle.counting.specs.Count.{count_refusal, count_answer}
 use Rattle.commission.specs.Starred.{Starred}
 
 pub starred : Starred
-unfolding sending receiving numerator units scaled inW inL letter orIf roadRefusal firstAbove ahead advance outflow entering leaving stepped word_of roundRun entered left same_list iterated still settles settleSteps settleCells forecastRefusal forecastAnswer forecastCells settleRefusal settleAnswer settleOutput mode_of modesOf rowTable row_of terms dot rowValue rowNumerators illegalPair offends firstOffence legal turned wordCount readRefusal predictRefusal readLetters readModes predicted countRefusal countAnswer
+unfolding sending receiving numerator units scaled in_w in_l letter or_if road_refusal first_index_above ahead advance outflow entering leaving stepped word_of round_run entered left same_list iterated still settles settle_steps settle_cells forecast_refusal forecast_answer forecast_cells settle_refusal settle_answer settle_output mode_of modes_of row_table row_of terms dot row_value row_numerators illegal_pair offends first_offence legal turned word_count read_refusal predict_refusal read_letters read_modes predicted count_refusal count_answer
 starred = record {
-  letter-200-200 = refl;
-  units-200-200 = refl;
-  letter-200-201 = refl;
-  units-200-201 = refl;
-  letter-201-200 = refl;
-  units-201-200 = refl;
-  letter-100-600 = refl;
-  units-100-600 = refl;
-  letter-100-601 = refl;
-  units-100-601 = refl;
-  letter-0-1000 = refl;
-  units-0-1000 = refl;
-  letter-1-1000 = refl;
-  units-1-1000 = refl;
+  letter_200_200 = refl;
+  units_200_200 = refl;
+  letter_200_201 = refl;
+  units_200_201 = refl;
+  letter_201_200 = refl;
+  units_201_200 = refl;
+  letter_100_600 = refl;
+  units_100_600 = refl;
+  letter_100_601 = refl;
+  units_100_601 = refl;
+  letter_0_1000 = refl;
+  units_0_1000 = refl;
+  letter_1_1000 = refl;
+  units_1_1000 = refl;
   one_cell = refl;
-  one-entered = refl;
+  one_entered = refl;
   one_left = refl;
-  one-exact = refl;
-  three-letters = refl;
-  three-cells = refl;
-  three-entered = refl;
-  three-left = refl;
+  one_exact = refl;
+  three_letters_are = refl;
+  three_cells = refl;
+  three_entered = refl;
+  three_left = refl;
   settled = refl;
-  settled-steps = refl;
-  settled-cell = refl;
-  three-modes = refl;
-  three-numerators = refl;
-  foreign-numerator = refl;
-  count-0 = refl;
-  count-1 = refl;
-  count-2 = refl;
+  settled_steps = refl;
+  settled_cell = refl;
+  three_modes_are = refl;
+  three_numerators = refl;
+  foreign_numerator = refl;
+  count_0 = refl;
+  count_1 = refl;
+  count_2 = refl;
 }

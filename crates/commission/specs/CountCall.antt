@@ -2,25 +2,25 @@
 use Rattle.std.specs.Prelude.{◌≡◌, List, [], ◌∷◌, ℕ, ◌≤◌}
 use Rattle.refusal.specs.Table.{refused}
 use Rattle.refusal.specs.declared.Refusal.{Refusal}
-use Rattle.road.specs.Ceilings.{countCeiling}
+use Rattle.road.specs.Ceilings.{count_ceiling}
 use Rattle.counting.specs.declared.counting.WordCount.{WordCount}
 use Rattle.counting.specs.declared.counting.CountAnswer.{CountAnswer}
 use Rattle.counting.specs.declared.counting.CountAnswer.TheVariants.{Done}
-use Rattle.counting.specs.Count.{countChecks, meaning, CountsWords}
+use Rattle.counting.specs.Count.{count_checks, meaning, CountsWords}
 use Rattle.welgadou.specs.Level2.{WordsCounted}
 use Rattle.commission.specs.Outcome.{Outcome}
 use Rattle.commission.specs.Places.{NoPlace}
 
 -- "count 15"
-abbrev pub countNumbers : List ℕ
-countNumbers = 15 ∷ []
+abbrev pub count_numbers : List ℕ
+count_numbers = 15 ∷ []
 
 -- what came of it: f the refusal that came back
-abbrev pub countOutcome : ℕ → Refusal → Type 0 → Type 0 → Outcome
-countOutcome n f Kept Made = record {
-  checks = countChecks n;
-  numbers = countNumbers;
-  Checked = n ≤ countCeiling;
+abbrev pub count_outcome : ℕ → Refusal → Type 0 → Type 0 → Outcome
+count_outcome n f Kept Made = record {
+  checks = count_checks n;
+  numbers = count_numbers;
+  Checked = n ≤ count_ceiling;
   Placed = NoPlace;
   refusal = f;
   Kept = Kept;
@@ -29,9 +29,9 @@ countOutcome n f Kept Made = record {
 
 pub data CalledCount : Outcome → Type 1 where
   count : {n : ℕ} {a : CountAnswer}
-      → CountsWords n a → CalledCount (countOutcome n (refused (meaning a).number (meaning a).place) (Unit {0}) ((c : WordCount) × (a ≡ Done c)))
-  welgadou-count : {n words words-next place number : ℕ}
-      → WordsCounted n words words-next place number → CalledCount (countOutcome n (refused number place) (words-next ≡ words) (Unit {0}))
+      → CountsWords n a → CalledCount (count_outcome n (refused (meaning a).number (meaning a).place) (Unit {0}) ((c : WordCount) × (a ≡ Done c)))
+  welgadou_count : {n words words-next place number : ℕ}
+      → WordsCounted n words words-next place number → CalledCount (count_outcome n (refused number place) (words-next ≡ words) (Unit {0}))
 
 -- what an accepted call was given and what it made
 pub record AcceptedCount : Type 0 where
@@ -40,5 +40,5 @@ pub record AcceptedCount : Type 0 where
 
 pub data CountMade : AcceptedCount → Type 0 where
   count : {n : ℕ} {a : CountAnswer} {c : WordCount} → CountsWords n a → a ≡ Done c → CountMade (record { cells = n; words = c.words })
-  welgadou-count : {n words words-next place number : ℕ}
+  welgadou_count : {n words words-next place number : ℕ}
       → WordsCounted n words words-next place number → number ≡ 0 → CountMade (record { cells = n; words = words-next })

@@ -6,22 +6,22 @@ use Rattle.road.specs.declared.Road.{Road}
 use Rattle.modes.specs.declared.fitting.FitResult.{FitResult}
 use Rattle.modes.specs.declared.fitting.FitAnswer.{FitAnswer}
 use Rattle.modes.specs.declared.fitting.FitAnswer.TheVariants.{Done}
-use Rattle.modes.specs.Judging.{fitChecks}
+use Rattle.modes.specs.Judging.{fit_checks}
 use Rattle.modes.specs.Fit.{meaning, FitChecked, Fits}
-use Rattle.welgadou.specs.Parts.{flagOf}
+use Rattle.welgadou.specs.Parts.{flag_of}
 use Rattle.welgadou.specs.Level2.{WordFitted}
 use Rattle.commission.specs.Outcome.{Outcome}
 use Rattle.commission.specs.Places.{PairWordPlaces}
 
 -- "fit 1–5 and 9–12"
-abbrev pub fitNumbers : List ℕ
-fitNumbers = 1 ∷ 2 ∷ 3 ∷ 4 ∷ 5 ∷ 9 ∷ 10 ∷ 11 ∷ 12 ∷ []
+abbrev pub fit_numbers : List ℕ
+fit_numbers = 1 ∷ 2 ∷ 3 ∷ 4 ∷ 5 ∷ 9 ∷ 10 ∷ 11 ∷ 12 ∷ []
 
 -- what came of it: f the refusal that came back
-abbrev pub fitOutcome : Road → List ℕ → ℕ → ℕ → List ℕ → Refusal → Type 0 → Type 0 → Outcome
-fitOutcome r cells up down word f Kept Made = record {
-  checks = fitChecks r cells up down word;
-  numbers = fitNumbers;
+abbrev pub fit_outcome : Road → List ℕ → ℕ → ℕ → List ℕ → Refusal → Type 0 → Type 0 → Outcome
+fit_outcome r cells up down word f Kept Made = record {
+  checks = fit_checks r cells up down word;
+  numbers = fit_numbers;
   Checked = FitChecked r cells up down word;
   Placed = PairWordPlaces r cells up down word;
   refusal = f;
@@ -32,12 +32,12 @@ fitOutcome r cells up down word f Kept Made = record {
 pub data CalledFit : Outcome → Type 1 where
   fit : {r : Road} {cells : List ℕ} {up down : ℕ} {word : List ℕ} {a : FitAnswer}
       → Fits r cells up down word a
-      → CalledFit (fitOutcome r cells up down word (refused (meaning a).number (meaning a).place) (Unit {0}) ((f : FitResult) × (a ≡ Done f)))
-  welgadou-fit : {r : Road} {cells : List ℕ} {up down : ℕ} {word : List ℕ} {holds holds-next face face-next place number : ℕ}
+      → CalledFit (fit_outcome r cells up down word (refused (meaning a).number (meaning a).place) (Unit {0}) ((f : FitResult) × (a ≡ Done f)))
+  welgadou_fit : {r : Road} {cells : List ℕ} {up down : ℕ} {word : List ℕ} {holds holds-next face face-next place number : ℕ}
       → WordFitted r cells up down word holds holds-next face face-next place number
-      → CalledFit (fitOutcome r cells up down word (refused number place)
+      → CalledFit (fit_outcome r cells up down word (refused number place)
       ((holds-next ≡ holds) × (face-next ≡ face))
-      ((b : Bool) × (holds-next ≡ flagOf b)))
+      ((b : Bool) × (holds-next ≡ flag_of b)))
 
 -- what an accepted call was given and what it made
 pub record AcceptedFit : Type 0 where
@@ -53,6 +53,6 @@ pub data FitMade : AcceptedFit → Type 0 where
   fit : {r : Road} {cells : List ℕ} {up down : ℕ} {word : List ℕ} {a : FitAnswer} {f : FitResult}
       → Fits r cells up down word a → a ≡ Done f
       → FitMade (record { road = r; cells = cells; up = up; down = down; word = word; holds = f.holds; face = f.face })
-  welgadou-fit : {r : Road} {cells : List ℕ} {up down : ℕ} {word : List ℕ} {holds holds-next face face-next place number : ℕ} {b : Bool}
-      → WordFitted r cells up down word holds holds-next face face-next place number → number ≡ 0 → holds-next ≡ flagOf b
+  welgadou_fit : {r : Road} {cells : List ℕ} {up down : ℕ} {word : List ℕ} {holds holds-next face face-next place number : ℕ} {b : Bool}
+      → WordFitted r cells up down word holds holds-next face face-next place number → number ≡ 0 → holds-next ≡ flag_of b
       → FitMade (record { road = r; cells = cells; up = up; down = down; word = word; holds = b; face = face-next })

@@ -7,21 +7,21 @@ use Rattle.scheme.specs.declared.many_steps.Totals.{Totals}
 use Rattle.forecast.specs.declared.forecasting.Record.{Record}
 use Rattle.forecast.specs.declared.forecasting.ForecastAnswer.{ForecastAnswer}
 use Rattle.forecast.specs.declared.forecasting.ForecastAnswer.TheVariants.{Done}
-use Rattle.forecast.specs.Forecast.{forecastChecks, meaning, Checked, Forecasts}
+use Rattle.forecast.specs.Forecast.{forecast_checks, meaning, Checked, Forecasts}
 use Rattle.forecast.specs.Chain.{Call, Site}
 use Rattle.welgadou.specs.Level1.{Forecasted}
 use Rattle.commission.specs.Outcome.{Outcome}
 use Rattle.commission.specs.Places.{ValuePlaces}
 
 -- "forecast 1–11" (document 01), 20 "after 8 and before 9" (document 02, E7), 19 "checked last" (E4)
-abbrev pub forecastNumbers : List ℕ
-forecastNumbers = 1 ∷ 2 ∷ 3 ∷ 4 ∷ 5 ∷ 6 ∷ 7 ∷ 8 ∷ 20 ∷ 9 ∷ 10 ∷ 11 ∷ 19 ∷ []
+abbrev pub forecast_numbers : List ℕ
+forecast_numbers = 1 ∷ 2 ∷ 3 ∷ 4 ∷ 5 ∷ 6 ∷ 7 ∷ 8 ∷ 20 ∷ 9 ∷ 10 ∷ 11 ∷ 19 ∷ []
 
 -- what came of it: f the refusal that came back
-abbrev pub forecastOutcome : Road → List ℕ → List ℕ → List ℕ → List ℕ → ℕ → Totals → ℕ → Refusal → Type 0 → Type 0 → Outcome
-forecastOutcome r caps cells ups downs t totals out f Kept Made = record {
-  checks = forecastChecks r caps cells ups downs t totals out;
-  numbers = forecastNumbers;
+abbrev pub forecast_outcome : Road → List ℕ → List ℕ → List ℕ → List ℕ → ℕ → Totals → ℕ → Refusal → Type 0 → Type 0 → Outcome
+forecast_outcome r caps cells ups downs t totals out f Kept Made = record {
+  checks = forecast_checks r caps cells ups downs t totals out;
+  numbers = forecast_numbers;
   Checked = Checked r caps cells ups downs t totals out;
   Placed = ValuePlaces r cells ups downs;
   refusal = f;
@@ -32,13 +32,13 @@ forecastOutcome r caps cells ups downs t totals out f Kept Made = record {
 pub data CalledForecast : Outcome → Type 1 where
   forecast : {r : Road} {caps cells ups downs : List ℕ} {t : ℕ} {totals : Totals} {out next : List ℕ} {a : ForecastAnswer}
       → Forecasts r caps cells ups downs t totals out next a
-      → CalledForecast (forecastOutcome r caps cells ups downs t totals (length out) (refused (meaning a).number (meaning a).place)
+      → CalledForecast (forecast_outcome r caps cells ups downs t totals (length out) (refused (meaning a).number (meaning a).place)
       (next ≡ out)
       ((d : Record) × (a ≡ Done d)))
-  welgadou-forecast : {r : Road} {caps cells ups downs : List ℕ} {t : ℕ} {totals totals-next : Totals} {out next : List ℕ} {entered entered-next left left-next place number : ℕ}
-      → Forecasted r caps cells ups downs t out next entered entered-next left left-next totals totals-next place number
-      → CalledForecast (forecastOutcome r caps cells ups downs t totals (length out) (refused number place)
-      ((next ≡ out) × (entered-next ≡ entered) × (left-next ≡ left) × (totals-next.entered ≡ totals.entered) × (totals-next.left ≡ totals.left))
+  welgadou_forecast : {r : Road} {caps cells ups downs : List ℕ} {t : ℕ} {totals totals_next : Totals} {out next : List ℕ} {entered entered-next left left-next place number : ℕ}
+      → Forecasted r caps cells ups downs t out next entered entered-next left left-next totals totals_next place number
+      → CalledForecast (forecast_outcome r caps cells ups downs t totals (length out) (refused number place)
+      ((next ≡ out) × (entered-next ≡ entered) × (left-next ≡ left) × (totals_next.entered ≡ totals.entered) × (totals_next.left ≡ totals.left))
       (Unit {0}))
 
 -- what an accepted call was given and what it made, of either layer: Done, or number 0
@@ -53,11 +53,11 @@ pub record AcceptedForecast : Type 0 where
   pub next : List ℕ
   pub entered : ℕ
   pub left : ℕ
-  pub totals-next : Totals
+  pub totals_next : Totals
 
 -- Done with its record d, whose own counts are what it reports
-abbrev pub acceptedForecast : Road → List ℕ → List ℕ → List ℕ → List ℕ → ℕ → Totals → List ℕ → Record → AcceptedForecast
-acceptedForecast r caps cells ups downs t totals next d = record {
+abbrev pub accepted_forecast : Road → List ℕ → List ℕ → List ℕ → List ℕ → ℕ → Totals → List ℕ → Record → AcceptedForecast
+accepted_forecast r caps cells ups downs t totals next d = record {
   road = r;
   caps = caps;
   cells = cells;
@@ -68,35 +68,35 @@ acceptedForecast r caps cells ups downs t totals next d = record {
   next = next;
   entered = d.own.entered;
   left = d.own.left;
-  totals-next = d.totals;
+  totals_next = d.totals;
 }
 
 pub data ForecastMade : AcceptedForecast → Type 0 where
   forecast : {r : Road} {caps cells ups downs : List ℕ} {t : ℕ} {totals : Totals} {out next : List ℕ} {a : ForecastAnswer} {d : Record}
-      → Forecasts r caps cells ups downs t totals out next a → a ≡ Done d → ForecastMade (acceptedForecast r caps cells ups downs t totals next d)
-  welgadou-forecast : {r : Road} {caps cells ups downs : List ℕ} {t : ℕ} {totals totals-next : Totals} {out next : List ℕ} {entered entered-next left left-next place number : ℕ}
-      → Forecasted r caps cells ups downs t out next entered entered-next left left-next totals totals-next place number → number ≡ 0
-      → ForecastMade (acceptedForecast r caps cells ups downs t totals next (record { own = record { entered = entered-next; left = left-next }; totals = totals-next }))
+      → Forecasts r caps cells ups downs t totals out next a → a ≡ Done d → ForecastMade (accepted_forecast r caps cells ups downs t totals next d)
+  welgadou_forecast : {r : Road} {caps cells ups downs : List ℕ} {t : ℕ} {totals totals_next : Totals} {out next : List ℕ} {entered entered-next left left-next place number : ℕ}
+      → Forecasted r caps cells ups downs t out next entered entered-next left left-next totals totals_next place number → number ≡ 0
+      → ForecastMade (accepted_forecast r caps cells ups downs t totals next (record { own = record { entered = entered-next; left = left-next }; totals = totals_next }))
 
 -- where it was made, as a call of `forecast`'s specs/Chain.antt, with what its output held; and the site that it leaves
-abbrev pub siteBefore : AcceptedForecast → Site
-siteBefore x = record { cells = x.cells; totals = x.totals }
+abbrev pub site_before : AcceptedForecast → Site
+site_before x = record { cells = x.cells; totals = x.totals }
 
 abbrev pub call_of : AcceptedForecast → List ℕ → Call
 call_of x out = record { road = x.road; caps = x.caps; horizon = x.horizon; ups = x.ups; downs = x.downs; out = out }
 
-abbrev pub siteLeft : AcceptedForecast → Site
-siteLeft x = record { cells = x.next; totals = x.totals-next }
+abbrev pub site_left : AcceptedForecast → Site
+site_left x = record { cells = x.next; totals = x.totals_next }
 
 -- a forecast that goes on where another ends: on its road, under its caps, from the cells that it handed back
 pub record Continued (first second : AcceptedForecast) : Type 0 where
-  pub same-road : second.road ≡ first.road
-  pub same-caps : second.caps ≡ first.caps
-  pub fed-cells : second.cells ≡ first.next
+  pub same_road : second.road ≡ first.road
+  pub same_caps : second.caps ≡ first.caps
+  pub fed_cells : second.cells ≡ first.next
 
 -- a "chain of accepted calls that begins with both totals 0, each fed with the last one's cells and totals" (document 02, E4): the cells at commissioning, those now,
 -- and the totals now. The chain of `forecast`'s specs/Chain.antt told again, by contracts alone, so that its calls may be of either layer; what an accepted call feeds is the same (`SinceCommissioning.feeds`)
 pub data ForecastChain (first : List ℕ) : List ℕ → Totals → Type 0 where
   commissioned : ForecastChain first first (record { entered = 0; left = 0 })
   fed : {cells : List ℕ} {totals : Totals} → ForecastChain first cells totals
-      → (x : AcceptedForecast) → ForecastMade x → x.cells ≡ cells → x.totals ≡ totals → ForecastChain first x.next x.totals-next
+      → (x : AcceptedForecast) → ForecastMade x → x.cells ≡ cells → x.totals ≡ totals → ForecastChain first x.next x.totals_next

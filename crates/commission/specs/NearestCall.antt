@@ -5,21 +5,21 @@ use Rattle.refusal.specs.declared.Refusal.{Refusal}
 use Rattle.road.specs.declared.Road.{Road}
 use Rattle.nearest.specs.declared.ranking.NearestAnswer.{NearestAnswer}
 use Rattle.nearest.specs.declared.ranking.NearestAnswer.TheVariants.{Done}
-use Rattle.nearest.specs.Nearest.{nearestChecks, nearestNumber, nearestPlace, NearestChecked, Nearests}
+use Rattle.nearest.specs.Nearest.{nearest_checks, nearest_number, nearest_place, NearestChecked, Nearests}
 use Rattle.welgadou.specs.Rankings.{NearestRanked}
 use Rattle.commission.specs.Outcome.{Outcome}
 use Rattle.commission.specs.Places.{PairPlaces}
-use Rattle.commission.specs.ReadCall.{readNumbers}
+use Rattle.commission.specs.ReadCall.{read_numbers}
 
 -- "its checks are those of document 01's reading" (document 02, E3)
-abbrev pub nearestNumbers : List ℕ
-nearestNumbers = readNumbers
+abbrev pub nearest_numbers : List ℕ
+nearest_numbers = read_numbers
 
 -- what came of it: f the refusal that came back
-abbrev pub nearestOutcome : Road → List ℕ → ℕ → ℕ → ℕ → ℕ → Refusal → Type 0 → Type 0 → Outcome
-nearestOutcome r cells up down numbers changes f Kept Made = record {
-  checks = nearestChecks r cells up down numbers changes;
-  numbers = nearestNumbers;
+abbrev pub nearest_outcome : Road → List ℕ → ℕ → ℕ → ℕ → ℕ → Refusal → Type 0 → Type 0 → Outcome
+nearest_outcome r cells up down numbers changes f Kept Made = record {
+  checks = nearest_checks r cells up down numbers changes;
+  numbers = nearest_numbers;
   Checked = NearestChecked r cells up down numbers changes;
   Placed = PairPlaces r cells up down;
   refusal = f;
@@ -30,12 +30,12 @@ nearestOutcome r cells up down numbers changes f Kept Made = record {
 pub data CalledNearest : Outcome → Type 1 where
   nearest : {r : Road} {cells : List ℕ} {up down : ℕ} {numbers next-numbers : List ℕ} {changes next-changes : List ℤ} {a : NearestAnswer}
       → Nearests r cells up down numbers next-numbers changes next-changes a
-      → CalledNearest (nearestOutcome r cells up down (length numbers) (length changes) (refused (nearestNumber a) (nearestPlace a))
+      → CalledNearest (nearest_outcome r cells up down (length numbers) (length changes) (refused (nearest_number a) (nearest_place a))
       ((next-numbers ≡ numbers) × (next-changes ≡ changes))
       (a ≡ Done))
-  welgadou-nearest : {r : Road} {cells : List ℕ} {up down : ℕ} {numbers numbers-next : List ℕ} {changes changes-next : List ℤ} {place number : ℕ}
+  welgadou_nearest : {r : Road} {cells : List ℕ} {up down : ℕ} {numbers numbers-next : List ℕ} {changes changes-next : List ℤ} {place number : ℕ}
       → NearestRanked r cells up down numbers numbers-next changes changes-next place number
-      → CalledNearest (nearestOutcome r cells up down (length numbers) (length changes) (refused number place)
+      → CalledNearest (nearest_outcome r cells up down (length numbers) (length changes) (refused number place)
       ((numbers-next ≡ numbers) × (changes-next ≡ changes))
       (Unit {0}))
 
@@ -52,6 +52,6 @@ pub data RankingMade : AcceptedRanking → Type 0 where
   nearest : {r : Road} {cells : List ℕ} {up down : ℕ} {numbers next-numbers : List ℕ} {changes next-changes : List ℤ} {a : NearestAnswer}
       → Nearests r cells up down numbers next-numbers changes next-changes a → a ≡ Done
       → RankingMade (record { road = r; cells = cells; up = up; down = down; numbers = next-numbers; changes = next-changes })
-  welgadou-nearest : {r : Road} {cells : List ℕ} {up down : ℕ} {numbers numbers-next : List ℕ} {changes changes-next : List ℤ} {place number : ℕ}
+  welgadou_nearest : {r : Road} {cells : List ℕ} {up down : ℕ} {numbers numbers-next : List ℕ} {changes changes-next : List ℤ} {place number : ℕ}
       → NearestRanked r cells up down numbers numbers-next changes changes-next place number → number ≡ 0
       → RankingMade (record { road = r; cells = cells; up = up; down = down; numbers = numbers-next; changes = changes-next })

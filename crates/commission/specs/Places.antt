@@ -2,8 +2,8 @@
 use Rattle.std.specs.Prelude.{◌≡◌, true, false, List, [], ◌∷◌, ℕ, ◌+◌, ◌≤◌, ◌<◌, length, get_or}
 use Rattle.refusal.specs.declared.Refusal.{Refusal}
 use Rattle.road.specs.declared.Road.{Road}
-use Rattle.flux.specs.Face.{letterD}
-use Rattle.words.specs.Places.{offendsAt}
+use Rattle.flux.specs.Face.{letter_d}
+use Rattle.words.specs.Places.{offends_at}
 
 -- a list's first density above j stands at k
 abbrev pub FirstOver : ℕ → List ℕ → ℕ → Type 0
@@ -22,7 +22,7 @@ WordPlace n word f =
     f.number ≡ 12
     → ((length word ≡ n + 1 → ⊥) → f.place ≡ n + 1)
     × (length word ≡ n + 1
-    → (f.place < n + 1) × (offendsAt letterD word f.place ≡ true) × ((i : ℕ) → i < f.place → offendsAt letterD word i ≡ false))
+    → (f.place < n + 1) × (offends_at letter_d word f.place ≡ true) × ((i : ℕ) → i < f.place → offends_at letter_d word i ≡ false))
 
 -- the places of a call with one end pair, and with a word besides
 abbrev pub PairPlaces : Road → List ℕ → ℕ → ℕ → Refusal → Type 0

@@ -5,21 +5,21 @@ use Rattle.refusal.specs.declared.Refusal.{Refusal}
 use Rattle.road.specs.declared.Road.{Road}
 use Rattle.rows.specs.declared.prediction.PredictAnswer.{PredictAnswer}
 use Rattle.rows.specs.declared.prediction.PredictAnswer.TheVariants.{Done}
-use Rattle.rows.specs.Judging.{predictChecks}
-use Rattle.rows.specs.Prediction.{predictNumber, predictPlace, PredictChecked, Predicts}
+use Rattle.rows.specs.Judging.{predict_checks}
+use Rattle.rows.specs.Prediction.{predict_number, predict_place, PredictChecked, Predicts}
 use Rattle.welgadou.specs.Level2.{RowsPredicted}
 use Rattle.commission.specs.Outcome.{Outcome}
 use Rattle.commission.specs.Places.{PairWordPlaces}
 
 -- "row prediction 1–5 and 8–12"
-abbrev pub predictNumbers : List ℕ
-predictNumbers = 1 ∷ 2 ∷ 3 ∷ 4 ∷ 5 ∷ 8 ∷ 9 ∷ 10 ∷ 11 ∷ 12 ∷ []
+abbrev pub predict_numbers : List ℕ
+predict_numbers = 1 ∷ 2 ∷ 3 ∷ 4 ∷ 5 ∷ 8 ∷ 9 ∷ 10 ∷ 11 ∷ 12 ∷ []
 
 -- what came of it: f the refusal that came back
-abbrev pub predictOutcome : Road → List ℕ → ℕ → ℕ → List ℕ → ℕ → Refusal → Type 0 → Type 0 → Outcome
-predictOutcome r cells up down word out f Kept Made = record {
-  checks = predictChecks r cells up down word out;
-  numbers = predictNumbers;
+abbrev pub predict_outcome : Road → List ℕ → ℕ → ℕ → List ℕ → ℕ → Refusal → Type 0 → Type 0 → Outcome
+predict_outcome r cells up down word out f Kept Made = record {
+  checks = predict_checks r cells up down word out;
+  numbers = predict_numbers;
   Checked = PredictChecked r cells up down word out;
   Placed = PairWordPlaces r cells up down word;
   refusal = f;
@@ -30,10 +30,10 @@ predictOutcome r cells up down word out f Kept Made = record {
 pub data CalledPredict : Outcome → Type 1 where
   predict : {r : Road} {cells : List ℕ} {up down : ℕ} {word : List ℕ} {out next : List ℤ} {a : PredictAnswer}
       → Predicts r cells up down word out next a
-      → CalledPredict (predictOutcome r cells up down word (length out) (refused (predictNumber a) (predictPlace a)) (next ≡ out) (a ≡ Done))
-  welgadou-rows : {r : Road} {cells : List ℕ} {up down : ℕ} {word : List ℕ} {out next : List ℤ} {place number : ℕ}
+      → CalledPredict (predict_outcome r cells up down word (length out) (refused (predict_number a) (predict_place a)) (next ≡ out) (a ≡ Done))
+  welgadou_rows : {r : Road} {cells : List ℕ} {up down : ℕ} {word : List ℕ} {out next : List ℤ} {place number : ℕ}
       → RowsPredicted r cells up down word out next place number
-      → CalledPredict (predictOutcome r cells up down word (length out) (refused number place) (next ≡ out) (Unit {0}))
+      → CalledPredict (predict_outcome r cells up down word (length out) (refused number place) (next ≡ out) (Unit {0}))
 
 -- what an accepted call was given and what it made
 pub record AcceptedRows : Type 0 where
@@ -48,6 +48,6 @@ pub data RowsMade : AcceptedRows → Type 0 where
   predict : {r : Road} {cells : List ℕ} {up down : ℕ} {word : List ℕ} {out next : List ℤ} {a : PredictAnswer}
       → Predicts r cells up down word out next a → a ≡ Done
       → RowsMade (record { road = r; cells = cells; up = up; down = down; word = word; rows = next })
-  welgadou-rows : {r : Road} {cells : List ℕ} {up down : ℕ} {word : List ℕ} {out next : List ℤ} {place number : ℕ}
+  welgadou_rows : {r : Road} {cells : List ℕ} {up down : ℕ} {word : List ℕ} {out next : List ℤ} {place number : ℕ}
       → RowsPredicted r cells up down word out next place number → number ≡ 0
       → RowsMade (record { road = r; cells = cells; up = up; down = down; word = word; rows = next })

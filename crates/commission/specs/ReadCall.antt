@@ -5,21 +5,21 @@ use Rattle.refusal.specs.declared.Refusal.{Refusal}
 use Rattle.road.specs.declared.Road.{Road}
 use Rattle.modes.specs.declared.reading.ReadAnswer.TheVariants.{Done}
 use Rattle.modes.specs.declared.reading.StateReading.{StateReading}
-use Rattle.modes.specs.Judging.{readChecks}
-use Rattle.modes.specs.Reading.{readNumber, read_place, ReadChecked, Reads}
+use Rattle.modes.specs.Judging.{read_checks}
+use Rattle.modes.specs.Reading.{read_number, read_place, ReadChecked, Reads}
 use Rattle.welgadou.specs.Level2.{StateRead}
 use Rattle.commission.specs.Outcome.{Outcome}
 use Rattle.commission.specs.Places.{PairPlaces}
 
 -- "reading 1–5 and 8–11"
-abbrev pub readNumbers : List ℕ
-readNumbers = 1 ∷ 2 ∷ 3 ∷ 4 ∷ 5 ∷ 8 ∷ 9 ∷ 10 ∷ 11 ∷ []
+abbrev pub read_numbers : List ℕ
+read_numbers = 1 ∷ 2 ∷ 3 ∷ 4 ∷ 5 ∷ 8 ∷ 9 ∷ 10 ∷ 11 ∷ []
 
 -- what came of it: f the refusal that came back
-abbrev pub readOutcome : Road → List ℕ → ℕ → ℕ → ℕ → ℕ → Refusal → Type 0 → Type 0 → Outcome
-readOutcome r cells up down letters modes f Kept Made = record {
-  checks = readChecks r cells up down letters modes;
-  numbers = readNumbers;
+abbrev pub read_outcome : Road → List ℕ → ℕ → ℕ → ℕ → ℕ → Refusal → Type 0 → Type 0 → Outcome
+read_outcome r cells up down letters modes f Kept Made = record {
+  checks = read_checks r cells up down letters modes;
+  numbers = read_numbers;
   Checked = ReadChecked r cells up down letters modes;
   Placed = PairPlaces r cells up down;
   refusal = f;
@@ -28,14 +28,14 @@ readOutcome r cells up down letters modes f Kept Made = record {
 }
 
 pub data CalledRead : Outcome → Type 1 where
-  read : {r : Road} {cells : List ℕ} {up down : ℕ} {letters next-letters modes next-modes : List ℕ} {a : StateReading}
-      → Reads r cells up down letters next-letters modes next-modes a
-      → CalledRead (readOutcome r cells up down (length letters) (length modes) (refused (readNumber a.answer) (read_place a.answer))
-      ((next-letters ≡ letters) × (next-modes ≡ modes))
+  read : {r : Road} {cells : List ℕ} {up down : ℕ} {letters next-letters modes next_modes : List ℕ} {a : StateReading}
+      → Reads r cells up down letters next-letters modes next_modes a
+      → CalledRead (read_outcome r cells up down (length letters) (length modes) (refused (read_number a.answer) (read_place a.answer))
+      ((next-letters ≡ letters) × (next_modes ≡ modes))
       (a.answer ≡ Done))
-  welgadou-read : {r : Road} {cells : List ℕ} {up down : ℕ} {letters letters-next modes modes-next counts counts-next : List ℕ} {queued queued-next place number : ℕ}
+  welgadou_read : {r : Road} {cells : List ℕ} {up down : ℕ} {letters letters-next modes modes-next counts counts-next : List ℕ} {queued queued-next place number : ℕ}
       → StateRead r cells up down letters letters-next modes modes-next counts counts-next queued queued-next place number
-      → CalledRead (readOutcome r cells up down (length letters) (length modes) (refused number place)
+      → CalledRead (read_outcome r cells up down (length letters) (length modes) (refused number place)
       ((letters-next ≡ letters) × (modes-next ≡ modes) × (counts-next ≡ counts) × (queued-next ≡ queued))
       (Unit {0}))
 
@@ -51,19 +51,19 @@ pub record AcceptedReading : Type 0 where
   pub queued : ℕ
 
 pub data ReadingMade : AcceptedReading → Type 0 where
-  read : {r : Road} {cells : List ℕ} {up down : ℕ} {letters next-letters modes next-modes : List ℕ} {a : StateReading}
-      → Reads r cells up down letters next-letters modes next-modes a → a.answer ≡ Done
+  read : {r : Road} {cells : List ℕ} {up down : ℕ} {letters next-letters modes next_modes : List ℕ} {a : StateReading}
+      → Reads r cells up down letters next-letters modes next_modes a → a.answer ≡ Done
       → ReadingMade (record {
         road = r;
         cells = cells;
         up = up;
         down = down;
         letters = next-letters;
-        modes = next-modes;
+        modes = next_modes;
         counts = a.counts.modes;
         queued = a.counts.queued;
       })
-  welgadou-read : {r : Road} {cells : List ℕ} {up down : ℕ} {letters letters-next modes modes-next counts counts-next : List ℕ} {queued queued-next place number : ℕ}
+  welgadou_read : {r : Road} {cells : List ℕ} {up down : ℕ} {letters letters-next modes modes-next counts counts-next : List ℕ} {queued queued-next place number : ℕ}
       → StateRead r cells up down letters letters-next modes modes-next counts counts-next queued queued-next place number → number ≡ 0
       → ReadingMade (record {
         road = r;

@@ -5,34 +5,34 @@ use Rattle.std.specs.Prelude.{◌≡◌, true, false, List, [], ◌∷◌, ℕ, 
 use Rattle.std.specs.Float.{nan, inf, fin, binary64}
 use Rattle.std.specs.Float.Ieee.{of_bits}
 use Rattle.refusal.specs.Table.{refused, passed}
-use Rattle.road.specs.Judgement.{roadRefusal}
+use Rattle.road.specs.Judgement.{road_refusal}
 use Rattle.road.specs.declared.Road.{Road}
-use Rattle.flux.specs.Face.{letterW, letterL, letterD}
-use Rattle.scheme.specs.Rounded.{openCaps}
+use Rattle.flux.specs.Face.{letter_w, letter_l, letter_d}
+use Rattle.scheme.specs.Rounded.{open_caps}
 use Rattle.scheme.specs.declared.many_steps.Totals.{Totals}
-use Rattle.forecast.specs.Forecast.{forecastAnswer}
-use Rattle.forecast.specs.Settle.{settleRefusal, settleAnswer}
+use Rattle.forecast.specs.Forecast.{forecast_answer}
+use Rattle.forecast.specs.Settle.{settle_refusal, settle_answer}
 use Rattle.forecast.specs.declared.forecasting.ForecastAnswer.TheVariants as Forecast
 use Rattle.forecast.specs.declared.settling.SettleAnswer.TheVariants as Settle
-use Rattle.modes.specs.Reading.{readAnswer}
-use Rattle.modes.specs.Fit.{fitAnswer}
-use Rattle.rows.specs.Prediction.{predictAnswer}
-use Rattle.candidate.specs.Candidate.{candidateRefusal, candidateAnswer}
-use Rattle.counting.specs.Count.{countAnswer}
+use Rattle.modes.specs.Reading.{read_answer}
+use Rattle.modes.specs.Fit.{fit_answer}
+use Rattle.rows.specs.Prediction.{predict_answer}
+use Rattle.candidate.specs.Candidate.{candidate_refusal, candidate_answer}
+use Rattle.counting.specs.Count.{count_answer}
 use Rattle.modes.specs.declared.reading.ReadAnswer.TheVariants as Read
 use Rattle.modes.specs.declared.fitting.FitAnswer.TheVariants as Fit
 use Rattle.rows.specs.declared.prediction.PredictAnswer.TheVariants as Predict
 use Rattle.candidate.specs.declared.candidates.CandidateAnswer.TheVariants as Candidate
 use Rattle.counting.specs.declared.counting.CountAnswer.TheVariants as Count
-use Rattle.station.specs.Station.{whole, stationAnswer}
+use Rattle.station.specs.Station.{whole, station_answer}
 use Rattle.station.specs.declared.stations.StationReading.TheVariants.{Density, FlowAndSpeed, Speed}
 use Rattle.station.specs.declared.stations.StationAnswer.TheVariants as Station
-use Rattle.nearest.specs.Nearest.{nearestAnswer}
+use Rattle.nearest.specs.Nearest.{nearest_answer}
 use Rattle.nearest.specs.declared.ranking.NearestAnswer.TheVariants as Nearest
 use Rattle.welgadou.specs.Level2.{CandidatePredicted}
-use Rattle.commission.specs.Starred.{roadA, totals, none, three}
-use Rattle.commission.specs.Requests.{four-fifths}
-use Rattle.commission.specs.Witnesses.{road, ups, downs, ownWord}
+use Rattle.commission.specs.Starred.{road_a, totals, none, three}
+use Rattle.commission.specs.Requests.{four_fifths}
+use Rattle.commission.specs.Witnesses.{road, ups, downs, own_word}
 
 -- roads that one check alone refuses: road A with D 4097; with D 3; with J 1000005 and C 200001; with C 201
 abbrev pub road1 : Road
@@ -63,23 +63,23 @@ full = totals 18446744073709551615 18446744073709551615
 
 -- words that check 12 refuses for three cells: a letter short, a letter long, a code unknown, W followed by D, L followed by L. Each offends once more or twice, which is not reported
 abbrev pub short : List ℕ
-short = 3 ∷ letterL ∷ letterW ∷ []
+short = 3 ∷ letter_l ∷ letter_w ∷ []
 
 abbrev pub long : List ℕ
-long = 3 ∷ letterL ∷ letterW ∷ letterL ∷ letterL ∷ []
+long = 3 ∷ letter_l ∷ letter_w ∷ letter_l ∷ letter_l ∷ []
 
 abbrev pub unknown : List ℕ
-unknown = letterD ∷ 3 ∷ letterL ∷ letterL ∷ []
+unknown = letter_d ∷ 3 ∷ letter_l ∷ letter_l ∷ []
 
-abbrev pub wThenD : List ℕ
-wThenD = letterD ∷ letterW ∷ letterD ∷ 3 ∷ []
+abbrev pub w_then_d : List ℕ
+w_then_d = letter_d ∷ letter_w ∷ letter_d ∷ 3 ∷ []
 
-abbrev pub lThenL : List ℕ
-lThenL = letterD ∷ letterL ∷ letterL ∷ letterL ∷ []
+abbrev pub l_then_l : List ℕ
+l_then_l = letter_d ∷ letter_l ∷ letter_l ∷ letter_l ∷ []
 
 -- −5e-324, the greatest number below 0, and a speed beside which a flow of so little would be −0.0: 2 to the power 996, about 6.7e299
-abbrev pub least-below-0 : Float
-least-below-0 = of_bits binary64 9223372036854775809
+abbrev pub least_below_0 : Float
+least_below_0 = of_bits binary64 9223372036854775809
 
 abbrev pub huge : Float
 huge = of_bits binary64 9092767647661031424
@@ -93,178 +93,178 @@ abbrev pub −0·0 : Float
 
 pub record Refusals : Type 0 where
   -- the roads that document 01 prints; of the first three a later check applies as well
-  pub road-1 : roadRefusal (road 0 4 1 1 200) ≡ refused 1 0
-  pub road-2 : roadRefusal (road 5 6 1 1000 200) ≡ refused 2 0
-  pub road-3 : roadRefusal (road 5 4 1 1000 1000) ≡ refused 3 0
-  pub road-4 : roadRefusal (road 5 4 1 1000 201) ≡ refused 4 0
+  pub road_1 : road_refusal (road 0 4 1 1 200) ≡ refused 1 0
+  pub road_2 : road_refusal (road 5 6 1 1000 200) ≡ refused 2 0
+  pub road_3 : road_refusal (road 5 4 1 1000 1000) ≡ refused 3 0
+  pub road_4 : road_refusal (road 5 4 1 1000 201) ≡ refused 4 0
   -- each part of a road's conditions: D 0, where 2 applies as well, since no speed is at most 0; p 0, q 0 and q above D; J 1, where no C is in range, C 0 and C = J. In all of these but that of D 0, 4 applies as well
-  pub road-1-none : roadRefusal (road 0 0 0 1000 200) ≡ refused 1 0
-  pub road-2-p-0 : roadRefusal (road 5 0 1 1000 200) ≡ refused 2 0
-  pub road-2-q-0 : roadRefusal (road 5 4 0 1000 200) ≡ refused 2 0
-  pub road-2-q : roadRefusal (road 5 4 6 1000 200) ≡ refused 2 0
-  pub road-3-j : roadRefusal (road 5 1 1 1 1) ≡ refused 3 0
-  pub road-3-c-0 : roadRefusal (road 5 4 1 1000 0) ≡ refused 3 0
-  pub road-3-c-j : roadRefusal (road 5 4 1 200 200) ≡ refused 3 0
+  pub road_1_none : road_refusal (road 0 0 0 1000 200) ≡ refused 1 0
+  pub road_2_p_0 : road_refusal (road 5 0 1 1000 200) ≡ refused 2 0
+  pub road_2_q_0 : road_refusal (road 5 4 0 1000 200) ≡ refused 2 0
+  pub road_2_q : road_refusal (road 5 4 6 1000 200) ≡ refused 2 0
+  pub road_3_j : road_refusal (road 5 1 1 1 1) ≡ refused 3 0
+  pub road_3_c_0 : road_refusal (road 5 4 1 1000 0) ≡ refused 3 0
+  pub road_3_c_j : road_refusal (road 5 4 1 200 200) ≡ refused 3 0
   -- 4 alone, p × C below q × (J − C) where road-4 has it above
-  pub road-4-below : roadRefusal (road 5 4 1 1000 199) ≡ refused 4 0
+  pub road_4_below : road_refusal (road 5 4 1 1000 199) ≡ refused 4 0
   -- the ceilings of D and J, by their numerals: each itself accepted, one beyond it refused, with nothing else that refuses
-  pub road-4096 : roadRefusal (road 4096 4096 4096 1000000 500000) ≡ passed
-  pub road-4097 : roadRefusal (road 4097 4096 4096 1000000 500000) ≡ refused 1 0
-  pub road-1000001 : roadRefusal (road 4096 100 1 1000001 9901) ≡ refused 3 0
+  pub road_4096 : road_refusal (road 4096 4096 4096 1000000 500000) ≡ passed
+  pub road_4097 : road_refusal (road 4097 4096 4096 1000000 500000) ≡ refused 1 0
+  pub road_1000001 : road_refusal (road 4096 100 1 1000001 9901) ≡ refused 3 0
   -- the ceilings of cells and horizon: 256 cells over 1,440 steps, 257 cells, 1,441 steps
-  pub settle-256-1440 : settleRefusal roadA (openCaps 256) (replicate 256 200) 100 0 1440 256 ≡ passed
-  pub settle-257 : settleRefusal roadA (openCaps 257) (replicate 257 200) 100 0 1440 257 ≡ refused 5 0
-  pub settle-1441 : settleRefusal roadA (openCaps 256) (replicate 256 200) 100 0 1441 256 ≡ refused 6 0
+  pub settle_256_1440 : settle_refusal road_a (open_caps 256) (replicate 256 200) 100 0 1440 256 ≡ passed
+  pub settle_257 : settle_refusal road_a (open_caps 257) (replicate 257 200) 100 0 1440 257 ≡ refused 5 0
+  pub settle_1441 : settle_refusal road_a (open_caps 256) (replicate 256 200) 100 0 1441 256 ≡ refused 6 0
   -- the jam density itself passes, in a cell and at either end
-  pub settle-at-jam : settleRefusal roadA (openCaps 3) (1000 ∷ 0 ∷ 1000 ∷ []) 1000 1000 9 3 ≡ passed
+  pub settle_at_jam : settle_refusal road_a (open_caps 3) (1000 ∷ 0 ∷ 1000 ∷ []) 1000 1000 9 3 ≡ passed
   -- forecast: caps, cells, upstream and downstream ends, T, the totals so far, length of the output
-  pub forecast-1 : forecastAnswer road1 (openCaps 3) three ups downs 3 none 3 ≡ Forecast.Refused (refused 1 0)
-  pub forecast-2 : forecastAnswer road2 (openCaps 3) three ups downs 3 none 3 ≡ Forecast.Refused (refused 2 0)
-  pub forecast-3 : forecastAnswer road3 (openCaps 3) three ups downs 3 none 3 ≡ Forecast.Refused (refused 3 0)
-  pub forecast-4 : forecastAnswer road4 (openCaps 3) three ups downs 3 none 3 ≡ Forecast.Refused (refused 4 0)
-  pub forecast-5-none : forecastAnswer roadA (openCaps 0) [] ups downs 3 none 0 ≡ Forecast.Refused (refused 5 0)
-  pub forecast-5-many : forecastAnswer roadA (openCaps 257) (replicate 257 0) ups downs 3 none 257 ≡ Forecast.Refused (refused 5 0)
-  pub forecast-6 : forecastAnswer roadA (openCaps 3) three (replicate 1441 0) (replicate 1441 0) 1441 none 3 ≡ Forecast.Refused (refused 6 0)
-  pub forecast-7-up : forecastAnswer roadA (openCaps 3) three two downs 3 none 3 ≡ Forecast.Refused (refused 7 0)
-  pub forecast-7-down : forecastAnswer roadA (openCaps 3) three ups two 3 none 3 ≡ Forecast.Refused (refused 7 0)
-  pub forecast-7-up-long : forecastAnswer roadA (openCaps 3) three four downs 3 none 3 ≡ Forecast.Refused (refused 7 0)
-  pub forecast-7-down-long : forecastAnswer roadA (openCaps 3) three ups four 3 none 3 ≡ Forecast.Refused (refused 7 0)
-  pub forecast-8 : forecastAnswer roadA (openCaps 3) three ups downs 3 none 2 ≡ Forecast.Refused (refused 8 0)
-  pub forecast-8-long : forecastAnswer roadA (openCaps 3) three ups downs 3 none 4 ≡ Forecast.Refused (refused 8 0)
+  pub forecast_1 : forecast_answer road1 (open_caps 3) three ups downs 3 none 3 ≡ Forecast.Refused (refused 1 0)
+  pub forecast_2 : forecast_answer road2 (open_caps 3) three ups downs 3 none 3 ≡ Forecast.Refused (refused 2 0)
+  pub forecast_3 : forecast_answer road3 (open_caps 3) three ups downs 3 none 3 ≡ Forecast.Refused (refused 3 0)
+  pub forecast_4 : forecast_answer road4 (open_caps 3) three ups downs 3 none 3 ≡ Forecast.Refused (refused 4 0)
+  pub forecast_5_none : forecast_answer road_a (open_caps 0) [] ups downs 3 none 0 ≡ Forecast.Refused (refused 5 0)
+  pub forecast_5_many : forecast_answer road_a (open_caps 257) (replicate 257 0) ups downs 3 none 257 ≡ Forecast.Refused (refused 5 0)
+  pub forecast_6 : forecast_answer road_a (open_caps 3) three (replicate 1441 0) (replicate 1441 0) 1441 none 3 ≡ Forecast.Refused (refused 6 0)
+  pub forecast_7_up : forecast_answer road_a (open_caps 3) three two downs 3 none 3 ≡ Forecast.Refused (refused 7 0)
+  pub forecast_7_down : forecast_answer road_a (open_caps 3) three ups two 3 none 3 ≡ Forecast.Refused (refused 7 0)
+  pub forecast_7_up_long : forecast_answer road_a (open_caps 3) three four downs 3 none 3 ≡ Forecast.Refused (refused 7 0)
+  pub forecast_7_down_long : forecast_answer road_a (open_caps 3) three ups four 3 none 3 ≡ Forecast.Refused (refused 7 0)
+  pub forecast_8 : forecast_answer road_a (open_caps 3) three ups downs 3 none 2 ≡ Forecast.Refused (refused 8 0)
+  pub forecast_8_long : forecast_answer road_a (open_caps 3) three ups downs 3 none 4 ≡ Forecast.Refused (refused 8 0)
   -- 20: no caps, n of them, n + 2; and its place in the call's order of checks: before 9, which applies as well; and after 8, where both do
-  pub forecast-20-none : forecastAnswer roadA [] three ups downs 3 none 3 ≡ Forecast.Refused (refused 20 0)
-  pub forecast-20-short : forecastAnswer roadA (openCaps 2) three ups downs 3 none 3 ≡ Forecast.Refused (refused 20 0)
-  pub forecast-20-long : forecastAnswer roadA (openCaps 4) three ups downs 3 none 3 ≡ Forecast.Refused (refused 20 0)
-  pub forecast-20-before-9 : forecastAnswer roadA (openCaps 2) above ups downs 3 none 3 ≡ Forecast.Refused (refused 20 0)
-  pub forecast-8-before-20 : forecastAnswer roadA (openCaps 2) above ups downs 3 none 2 ≡ Forecast.Refused (refused 8 0)
-  pub forecast-9 : forecastAnswer roadA (openCaps 3) above ups downs 3 none 3 ≡ Forecast.Refused (refused 9 2)
-  pub forecast-10 : forecastAnswer roadA (openCaps 3) three above downs 3 none 3 ≡ Forecast.Refused (refused 10 1)
-  pub forecast-11 : forecastAnswer roadA (openCaps 3) three ups above 3 none 3 ≡ Forecast.Refused (refused 11 1)
+  pub forecast_20_none : forecast_answer road_a [] three ups downs 3 none 3 ≡ Forecast.Refused (refused 20 0)
+  pub forecast_20_short : forecast_answer road_a (open_caps 2) three ups downs 3 none 3 ≡ Forecast.Refused (refused 20 0)
+  pub forecast_20_long : forecast_answer road_a (open_caps 4) three ups downs 3 none 3 ≡ Forecast.Refused (refused 20 0)
+  pub forecast_20_before_9 : forecast_answer road_a (open_caps 2) above ups downs 3 none 3 ≡ Forecast.Refused (refused 20 0)
+  pub forecast_8_before_20 : forecast_answer road_a (open_caps 2) above ups downs 3 none 2 ≡ Forecast.Refused (refused 8 0)
+  pub forecast_9 : forecast_answer road_a (open_caps 3) above ups downs 3 none 3 ≡ Forecast.Refused (refused 9 2)
+  pub forecast_10 : forecast_answer road_a (open_caps 3) three above downs 3 none 3 ≡ Forecast.Refused (refused 10 1)
+  pub forecast_11 : forecast_answer road_a (open_caps 3) three ups above 3 none 3 ≡ Forecast.Refused (refused 11 1)
   -- 19 last: of each of these it applies as well, with totals that no unit more fits into
-  pub forecast-20-before-19 : forecastAnswer roadA (openCaps 2) three ups downs 3 full 3 ≡ Forecast.Refused (refused 20 0)
-  pub forecast-9-before-19 : forecastAnswer roadA (openCaps 3) above ups downs 3 full 3 ≡ Forecast.Refused (refused 9 2)
-  pub forecast-10-before-19 : forecastAnswer roadA (openCaps 3) three above downs 3 full 3 ≡ Forecast.Refused (refused 10 1)
-  pub forecast-11-before-19 : forecastAnswer roadA (openCaps 3) three ups above 3 full 3 ≡ Forecast.Refused (refused 11 1)
+  pub forecast_20_before_19 : forecast_answer road_a (open_caps 2) three ups downs 3 full 3 ≡ Forecast.Refused (refused 20 0)
+  pub forecast_9_before_19 : forecast_answer road_a (open_caps 3) above ups downs 3 full 3 ≡ Forecast.Refused (refused 9 2)
+  pub forecast_10_before_19 : forecast_answer road_a (open_caps 3) three above downs 3 full 3 ≡ Forecast.Refused (refused 10 1)
+  pub forecast_11_before_19 : forecast_answer road_a (open_caps 3) three ups above 3 full 3 ≡ Forecast.Refused (refused 11 1)
   -- either total alone, by one unit: the three steps let 240 enter and 480 leave
-  pub forecast-19-entered : forecastAnswer roadA (openCaps 3) three ups downs 3 (totals 18446744073709551376 0) 3 ≡ Forecast.Refused (refused 19 0)
-  pub forecast-19-left : forecastAnswer roadA (openCaps 3) three ups downs 3 (totals 0 18446744073709551136) 3 ≡ Forecast.Refused (refused 19 0)
+  pub forecast_19_entered : forecast_answer road_a (open_caps 3) three ups downs 3 (totals 18446744073709551376 0) 3 ≡ Forecast.Refused (refused 19 0)
+  pub forecast_19_left : forecast_answer road_a (open_caps 3) three ups downs 3 (totals 0 18446744073709551136) 3 ≡ Forecast.Refused (refused 19 0)
   -- settling run: caps, cells, the end pair, T, length of the output
-  pub settle-1 : settleAnswer road1 (openCaps 3) three 100 0 9 3 ≡ Settle.Refused (refused 1 0)
-  pub settle-2 : settleAnswer road2 (openCaps 3) three 100 0 9 3 ≡ Settle.Refused (refused 2 0)
-  pub settle-3 : settleAnswer road3 (openCaps 3) three 100 0 9 3 ≡ Settle.Refused (refused 3 0)
-  pub settle-4 : settleAnswer road4 (openCaps 3) three 100 0 9 3 ≡ Settle.Refused (refused 4 0)
-  pub settle-5 : settleAnswer roadA (openCaps 0) [] 100 0 9 0 ≡ Settle.Refused (refused 5 0)
-  pub settle-6 : settleAnswer roadA (openCaps 3) three 100 0 1441 3 ≡ Settle.Refused (refused 6 0)
-  pub settle-8 : settleAnswer roadA (openCaps 3) three 100 0 9 2 ≡ Settle.Refused (refused 8 0)
+  pub settle_1 : settle_answer road1 (open_caps 3) three 100 0 9 3 ≡ Settle.Refused (refused 1 0)
+  pub settle_2 : settle_answer road2 (open_caps 3) three 100 0 9 3 ≡ Settle.Refused (refused 2 0)
+  pub settle_3 : settle_answer road3 (open_caps 3) three 100 0 9 3 ≡ Settle.Refused (refused 3 0)
+  pub settle_4 : settle_answer road4 (open_caps 3) three 100 0 9 3 ≡ Settle.Refused (refused 4 0)
+  pub settle_5 : settle_answer road_a (open_caps 0) [] 100 0 9 0 ≡ Settle.Refused (refused 5 0)
+  pub settle_6 : settle_answer road_a (open_caps 3) three 100 0 1441 3 ≡ Settle.Refused (refused 6 0)
+  pub settle_8 : settle_answer road_a (open_caps 3) three 100 0 9 2 ≡ Settle.Refused (refused 8 0)
   -- 20 likewise
-  pub settle-20-none : settleAnswer roadA [] three 100 0 9 3 ≡ Settle.Refused (refused 20 0)
-  pub settle-20-short : settleAnswer roadA (openCaps 2) three 100 0 9 3 ≡ Settle.Refused (refused 20 0)
-  pub settle-20-long : settleAnswer roadA (openCaps 4) three 100 0 9 3 ≡ Settle.Refused (refused 20 0)
-  pub settle-20-before-9 : settleAnswer roadA (openCaps 2) above 100 0 9 3 ≡ Settle.Refused (refused 20 0)
-  pub settle-8-before-20 : settleAnswer roadA (openCaps 2) above 100 0 9 2 ≡ Settle.Refused (refused 8 0)
-  pub settle-9 : settleAnswer roadA (openCaps 3) above 100 0 9 3 ≡ Settle.Refused (refused 9 2)
-  pub settle-10 : settleAnswer roadA (openCaps 3) three 1001 0 9 3 ≡ Settle.Refused (refused 10 0)
-  pub settle-11 : settleAnswer roadA (openCaps 3) three 100 1001 9 3 ≡ Settle.Refused (refused 11 0)
+  pub settle_20_none : settle_answer road_a [] three 100 0 9 3 ≡ Settle.Refused (refused 20 0)
+  pub settle_20_short : settle_answer road_a (open_caps 2) three 100 0 9 3 ≡ Settle.Refused (refused 20 0)
+  pub settle_20_long : settle_answer road_a (open_caps 4) three 100 0 9 3 ≡ Settle.Refused (refused 20 0)
+  pub settle_20_before_9 : settle_answer road_a (open_caps 2) above 100 0 9 3 ≡ Settle.Refused (refused 20 0)
+  pub settle_8_before_20 : settle_answer road_a (open_caps 2) above 100 0 9 2 ≡ Settle.Refused (refused 8 0)
+  pub settle_9 : settle_answer road_a (open_caps 3) above 100 0 9 3 ≡ Settle.Refused (refused 9 2)
+  pub settle_10 : settle_answer road_a (open_caps 3) three 1001 0 9 3 ≡ Settle.Refused (refused 10 0)
+  pub settle_11 : settle_answer road_a (open_caps 3) three 100 1001 9 3 ≡ Settle.Refused (refused 11 0)
   -- reading: cells, the end pair, lengths of the letters and of the modes
-  pub read-1 : (readAnswer road1 three 100 0 4 3).answer ≡ Read.Refused (refused 1 0)
-  pub read-2 : (readAnswer road2 three 100 0 4 3).answer ≡ Read.Refused (refused 2 0)
-  pub read-3 : (readAnswer road3 three 100 0 4 3).answer ≡ Read.Refused (refused 3 0)
-  pub read-4 : (readAnswer road4 three 100 0 4 3).answer ≡ Read.Refused (refused 4 0)
-  pub read-5 : (readAnswer roadA [] 100 0 1 0).answer ≡ Read.Refused (refused 5 0)
-  pub read-8-letters : (readAnswer roadA three 100 0 3 3).answer ≡ Read.Refused (refused 8 0)
-  pub read-8-modes : (readAnswer roadA three 100 0 4 4).answer ≡ Read.Refused (refused 8 0)
-  pub read-9 : (readAnswer roadA above 100 0 4 3).answer ≡ Read.Refused (refused 9 2)
-  pub read-10 : (readAnswer roadA three 1001 0 4 3).answer ≡ Read.Refused (refused 10 0)
-  pub read-11 : (readAnswer roadA three 100 1001 4 3).answer ≡ Read.Refused (refused 11 0)
+  pub read_1 : (read_answer road1 three 100 0 4 3).answer ≡ Read.Refused (refused 1 0)
+  pub read_2 : (read_answer road2 three 100 0 4 3).answer ≡ Read.Refused (refused 2 0)
+  pub read_3 : (read_answer road3 three 100 0 4 3).answer ≡ Read.Refused (refused 3 0)
+  pub read_4 : (read_answer road4 three 100 0 4 3).answer ≡ Read.Refused (refused 4 0)
+  pub read_5 : (read_answer road_a [] 100 0 1 0).answer ≡ Read.Refused (refused 5 0)
+  pub read_8_letters : (read_answer road_a three 100 0 3 3).answer ≡ Read.Refused (refused 8 0)
+  pub read_8_modes : (read_answer road_a three 100 0 4 4).answer ≡ Read.Refused (refused 8 0)
+  pub read_9 : (read_answer road_a above 100 0 4 3).answer ≡ Read.Refused (refused 9 2)
+  pub read_10 : (read_answer road_a three 1001 0 4 3).answer ≡ Read.Refused (refused 10 0)
+  pub read_11 : (read_answer road_a three 100 1001 4 3).answer ≡ Read.Refused (refused 11 0)
   -- fit test: cells, the end pair, the word
-  pub fit-1 : fitAnswer road1 three 100 0 ownWord ≡ Fit.Refused (refused 1 0)
-  pub fit-2 : fitAnswer road2 three 100 0 ownWord ≡ Fit.Refused (refused 2 0)
-  pub fit-3 : fitAnswer road3 three 100 0 ownWord ≡ Fit.Refused (refused 3 0)
-  pub fit-4 : fitAnswer road4 three 100 0 ownWord ≡ Fit.Refused (refused 4 0)
-  pub fit-5 : fitAnswer roadA [] 100 0 (letterD ∷ []) ≡ Fit.Refused (refused 5 0)
-  pub fit-9 : fitAnswer roadA above 100 0 ownWord ≡ Fit.Refused (refused 9 2)
-  pub fit-10 : fitAnswer roadA three 1001 0 ownWord ≡ Fit.Refused (refused 10 0)
-  pub fit-11 : fitAnswer roadA three 100 1001 ownWord ≡ Fit.Refused (refused 11 0)
-  pub fit-12-length : fitAnswer roadA three 100 0 short ≡ Fit.Refused (refused 12 4)
-  pub fit-12-length-long : fitAnswer roadA three 100 0 long ≡ Fit.Refused (refused 12 4)
-  pub fit-12-code : fitAnswer roadA three 100 0 unknown ≡ Fit.Refused (refused 12 1)
-  pub fit-12-pair-W-D : fitAnswer roadA three 100 0 wThenD ≡ Fit.Refused (refused 12 2)
-  pub fit-12-pair-L-L : fitAnswer roadA three 100 0 lThenL ≡ Fit.Refused (refused 12 2)
+  pub fit_1 : fit_answer road1 three 100 0 own_word ≡ Fit.Refused (refused 1 0)
+  pub fit_2 : fit_answer road2 three 100 0 own_word ≡ Fit.Refused (refused 2 0)
+  pub fit_3 : fit_answer road3 three 100 0 own_word ≡ Fit.Refused (refused 3 0)
+  pub fit_4 : fit_answer road4 three 100 0 own_word ≡ Fit.Refused (refused 4 0)
+  pub fit_5 : fit_answer road_a [] 100 0 (letter_d ∷ []) ≡ Fit.Refused (refused 5 0)
+  pub fit_9 : fit_answer road_a above 100 0 own_word ≡ Fit.Refused (refused 9 2)
+  pub fit_10 : fit_answer road_a three 1001 0 own_word ≡ Fit.Refused (refused 10 0)
+  pub fit_11 : fit_answer road_a three 100 1001 own_word ≡ Fit.Refused (refused 11 0)
+  pub fit_12_length : fit_answer road_a three 100 0 short ≡ Fit.Refused (refused 12 4)
+  pub fit_12_length_long : fit_answer road_a three 100 0 long ≡ Fit.Refused (refused 12 4)
+  pub fit_12_code : fit_answer road_a three 100 0 unknown ≡ Fit.Refused (refused 12 1)
+  pub fit_12_pair_w_d : fit_answer road_a three 100 0 w_then_d ≡ Fit.Refused (refused 12 2)
+  pub fit_12_pair_l_l : fit_answer road_a three 100 0 l_then_l ≡ Fit.Refused (refused 12 2)
   -- row prediction: cells, the end pair, the word, length of the output
-  pub predict-1 : predictAnswer road1 three 100 0 ownWord 3 ≡ Predict.Refused (refused 1 0)
-  pub predict-2 : predictAnswer road2 three 100 0 ownWord 3 ≡ Predict.Refused (refused 2 0)
-  pub predict-3 : predictAnswer road3 three 100 0 ownWord 3 ≡ Predict.Refused (refused 3 0)
-  pub predict-4 : predictAnswer road4 three 100 0 ownWord 3 ≡ Predict.Refused (refused 4 0)
-  pub predict-5 : predictAnswer roadA [] 100 0 (letterD ∷ []) 0 ≡ Predict.Refused (refused 5 0)
-  pub predict-8 : predictAnswer roadA three 100 0 ownWord 4 ≡ Predict.Refused (refused 8 0)
-  pub predict-9 : predictAnswer roadA above 100 0 ownWord 3 ≡ Predict.Refused (refused 9 2)
-  pub predict-10 : predictAnswer roadA three 1001 0 ownWord 3 ≡ Predict.Refused (refused 10 0)
-  pub predict-11 : predictAnswer roadA three 100 1001 ownWord 3 ≡ Predict.Refused (refused 11 0)
-  pub predict-12-length : predictAnswer roadA three 100 0 short 3 ≡ Predict.Refused (refused 12 4)
-  pub predict-12-code : predictAnswer roadA three 100 0 unknown 3 ≡ Predict.Refused (refused 12 1)
-  pub predict-12-pair-W-D : predictAnswer roadA three 100 0 wThenD 3 ≡ Predict.Refused (refused 12 2)
-  pub predict-12-pair-L-L : predictAnswer roadA three 100 0 lThenL 3 ≡ Predict.Refused (refused 12 2)
+  pub predict_1 : predict_answer road1 three 100 0 own_word 3 ≡ Predict.Refused (refused 1 0)
+  pub predict_2 : predict_answer road2 three 100 0 own_word 3 ≡ Predict.Refused (refused 2 0)
+  pub predict_3 : predict_answer road3 three 100 0 own_word 3 ≡ Predict.Refused (refused 3 0)
+  pub predict_4 : predict_answer road4 three 100 0 own_word 3 ≡ Predict.Refused (refused 4 0)
+  pub predict_5 : predict_answer road_a [] 100 0 (letter_d ∷ []) 0 ≡ Predict.Refused (refused 5 0)
+  pub predict_8 : predict_answer road_a three 100 0 own_word 4 ≡ Predict.Refused (refused 8 0)
+  pub predict_9 : predict_answer road_a above 100 0 own_word 3 ≡ Predict.Refused (refused 9 2)
+  pub predict_10 : predict_answer road_a three 1001 0 own_word 3 ≡ Predict.Refused (refused 10 0)
+  pub predict_11 : predict_answer road_a three 100 1001 own_word 3 ≡ Predict.Refused (refused 11 0)
+  pub predict_12_length : predict_answer road_a three 100 0 short 3 ≡ Predict.Refused (refused 12 4)
+  pub predict_12_code : predict_answer road_a three 100 0 unknown 3 ≡ Predict.Refused (refused 12 1)
+  pub predict_12_pair_w_d : predict_answer road_a three 100 0 w_then_d 3 ≡ Predict.Refused (refused 12 2)
+  pub predict_12_pair_l_l : predict_answer road_a three 100 0 l_then_l 3 ≡ Predict.Refused (refused 12 2)
   -- candidate prediction: mode, left, own and right
-  pub candidate-1 : candidateAnswer road1 6 (whole 100) (whole 300) (whole 150) ≡ Candidate.Refused (refused 1 0)
-  pub candidate-2 : candidateAnswer road2 6 (whole 100) (whole 300) (whole 150) ≡ Candidate.Refused (refused 2 0)
-  pub candidate-3 : candidateAnswer road3 6 (whole 100) (whole 300) (whole 150) ≡ Candidate.Refused (refused 3 0)
-  pub candidate-4 : candidateAnswer road4 6 (whole 100) (whole 300) (whole 150) ≡ Candidate.Refused (refused 4 0)
-  pub candidate-13-low : candidateAnswer roadA 0 (whole 100) (whole 300) (whole 150) ≡ Candidate.Refused (refused 13 0)
-  pub candidate-13-high : candidateAnswer roadA 8 (whole 100) (whole 300) (whole 150) ≡ Candidate.Refused (refused 13 0)
+  pub candidate_1 : candidate_answer road1 6 (whole 100) (whole 300) (whole 150) ≡ Candidate.Refused (refused 1 0)
+  pub candidate_2 : candidate_answer road2 6 (whole 100) (whole 300) (whole 150) ≡ Candidate.Refused (refused 2 0)
+  pub candidate_3 : candidate_answer road3 6 (whole 100) (whole 300) (whole 150) ≡ Candidate.Refused (refused 3 0)
+  pub candidate_4 : candidate_answer road4 6 (whole 100) (whole 300) (whole 150) ≡ Candidate.Refused (refused 4 0)
+  pub candidate_13_low : candidate_answer road_a 0 (whole 100) (whole 300) (whole 150) ≡ Candidate.Refused (refused 13 0)
+  pub candidate_13_high : candidate_answer road_a 8 (whole 100) (whole 300) (whole 150) ≡ Candidate.Refused (refused 13 0)
   -- the first and the last mode pass, and estimates of 0, −0 and J
-  pub candidate-1-passes : candidateRefusal roadA 1 (whole 0) −0·0 (whole 1000) ≡ passed
-  pub candidate-7-passes : candidateRefusal roadA 7 (whole 1000) (whole 0) −0·0 ≡ passed
+  pub candidate_1_passes : candidate_refusal road_a 1 (whole 0) −0·0 (whole 1000) ≡ passed
+  pub candidate_7_passes : candidate_refusal road_a 7 (whole 1000) (whole 0) −0·0 ≡ passed
   -- 257, whose lowest byte would be mode 1, fits the C call's mode alone: its contract gives it 13
-  pub welgadou-candidate-13 : {former next : Float} {place number : ℕ}
-      → CandidatePredicted roadA 257 (whole 100) (whole 300) (whole 150) former next place number → refused number place ≡ refused 13 0
-  pub candidate-14-left : candidateAnswer roadA 6 nan nan nan ≡ Candidate.Refused (refused 14 1)
-  pub candidate-14-own : candidateAnswer roadA 6 (whole 100) −1·0 −1·0 ≡ Candidate.Refused (refused 14 2)
-  pub candidate-14-right : candidateAnswer roadA 6 (whole 100) (whole 300) (whole 1001) ≡ Candidate.Refused (refused 14 3)
-  pub candidate-14-left-below : candidateAnswer roadA 6 −1·0 nan (whole 150) ≡ Candidate.Refused (refused 14 1)
-  pub candidate-14-left-above : candidateAnswer roadA 6 (inf false) (whole 300) nan ≡ Candidate.Refused (refused 14 1)
-  pub candidate-14-own-nan : candidateAnswer roadA 6 (whole 100) nan (whole 1001) ≡ Candidate.Refused (refused 14 2)
-  pub candidate-14-own-above : candidateAnswer roadA 6 (whole 100) (whole 1001) −1·0 ≡ Candidate.Refused (refused 14 2)
-  pub candidate-14-right-nan : candidateAnswer roadA 6 (whole 100) (whole 300) nan ≡ Candidate.Refused (refused 14 3)
-  pub candidate-14-right-below : candidateAnswer roadA 6 (whole 100) (whole 300) −1·0 ≡ Candidate.Refused (refused 14 3)
+  pub welgadou_candidate_13 : {former next : Float} {place number : ℕ}
+      → CandidatePredicted road_a 257 (whole 100) (whole 300) (whole 150) former next place number → refused number place ≡ refused 13 0
+  pub candidate_14_left : candidate_answer road_a 6 nan nan nan ≡ Candidate.Refused (refused 14 1)
+  pub candidate_14_own : candidate_answer road_a 6 (whole 100) −1·0 −1·0 ≡ Candidate.Refused (refused 14 2)
+  pub candidate_14_right : candidate_answer road_a 6 (whole 100) (whole 300) (whole 1001) ≡ Candidate.Refused (refused 14 3)
+  pub candidate_14_left_below : candidate_answer road_a 6 −1·0 nan (whole 150) ≡ Candidate.Refused (refused 14 1)
+  pub candidate_14_left_above : candidate_answer road_a 6 (inf false) (whole 300) nan ≡ Candidate.Refused (refused 14 1)
+  pub candidate_14_own_nan : candidate_answer road_a 6 (whole 100) nan (whole 1001) ≡ Candidate.Refused (refused 14 2)
+  pub candidate_14_own_above : candidate_answer road_a 6 (whole 100) (whole 1001) −1·0 ≡ Candidate.Refused (refused 14 2)
+  pub candidate_14_right_nan : candidate_answer road_a 6 (whole 100) (whole 300) nan ≡ Candidate.Refused (refused 14 3)
+  pub candidate_14_right_below : candidate_answer road_a 6 (whole 100) (whole 300) −1·0 ≡ Candidate.Refused (refused 14 3)
   -- word count: cells
-  pub count-15 : countAnswer 41 ≡ Count.Refused (refused 15 0)
-  pub count-40 : countAnswer 40 ≡ Count.Done (record { words = 368206551266960 })
+  pub count_15 : count_answer 41 ≡ Count.Refused (refused 15 0)
+  pub count_40 : count_answer 40 ≡ Count.Done (record { words = 368206551266960 })
   -- station: the reading. 18 applies as well to a NaN, to a zero speed, to an infinite density or flow, and to a density or a speed beside a flow of 80 that is below 0: none has a result in range. To an
   -- infinite lone speed 17 applies as well
-  pub station-1 : stationAnswer road1 (Density (whole 100)) ≡ Station.Refused (refused 1 0)
-  pub station-2 : stationAnswer road2 (Density (whole 100)) ≡ Station.Refused (refused 2 0)
-  pub station-3 : stationAnswer road3 (Density (whole 100)) ≡ Station.Refused (refused 3 0)
-  pub station-4 : stationAnswer road4 (Density (whole 100)) ≡ Station.Refused (refused 4 0)
-  pub station-16-infinite : stationAnswer roadA (FlowAndSpeed (whole 80) (inf false)) ≡ Station.Refused (refused 16 0)
-  pub station-16-below-0 : stationAnswer roadA (FlowAndSpeed −1·0 −1·0) ≡ Station.Refused (refused 16 0)
-  pub station-16-no-number : stationAnswer roadA (Density nan) ≡ Station.Refused (refused 16 0)
-  pub station-16-zero-speed : stationAnswer roadA (FlowAndSpeed (whole 80) (whole 0)) ≡ Station.Refused (refused 16 0)
-  pub station-16-flow-nan : stationAnswer roadA (FlowAndSpeed nan (whole 1)) ≡ Station.Refused (refused 16 0)
-  pub station-16-flow-below-0 : stationAnswer roadA (FlowAndSpeed least-below-0 huge) ≡ Station.Refused (refused 16 0)
-  pub station-16-speed-nan : stationAnswer roadA (Speed nan) ≡ Station.Refused (refused 16 0)
-  pub station-16-speed-below-0 : stationAnswer roadA (Speed least-below-0) ≡ Station.Refused (refused 16 0)
-  pub station-16-speed-infinite : stationAnswer roadA (Speed (inf false)) ≡ Station.Refused (refused 16 0)
-  pub station-16-flow-infinite : stationAnswer roadA (FlowAndSpeed (inf false) (whole 1)) ≡ Station.Refused (refused 16 0)
-  pub station-16-beside-nan : stationAnswer roadA (FlowAndSpeed (whole 80) nan) ≡ Station.Refused (refused 16 0)
-  pub station-16-beside-below-0 : stationAnswer roadA (FlowAndSpeed (whole 80) −1·0) ≡ Station.Refused (refused 16 0)
-  pub station-16-beside-minus-0 : stationAnswer roadA (FlowAndSpeed (whole 80) −0·0) ≡ Station.Refused (refused 16 0)
-  pub station-16-density-infinite : stationAnswer roadA (Density (inf false)) ≡ Station.Refused (refused 16 0)
-  pub station-16-density-below-0 : stationAnswer roadA (Density −1·0) ≡ Station.Refused (refused 16 0)
-  pub station-17 : stationAnswer roadA (Speed four-fifths) ≡ Station.Refused (refused 17 0)
-  pub station-17-above : stationAnswer roadA (Speed (whole 1)) ≡ Station.Refused (refused 17 0)
+  pub station_1 : station_answer road1 (Density (whole 100)) ≡ Station.Refused (refused 1 0)
+  pub station_2 : station_answer road2 (Density (whole 100)) ≡ Station.Refused (refused 2 0)
+  pub station_3 : station_answer road3 (Density (whole 100)) ≡ Station.Refused (refused 3 0)
+  pub station_4 : station_answer road4 (Density (whole 100)) ≡ Station.Refused (refused 4 0)
+  pub station_16_infinite : station_answer road_a (FlowAndSpeed (whole 80) (inf false)) ≡ Station.Refused (refused 16 0)
+  pub station_16_below_0 : station_answer road_a (FlowAndSpeed −1·0 −1·0) ≡ Station.Refused (refused 16 0)
+  pub station_16_no_number : station_answer road_a (Density nan) ≡ Station.Refused (refused 16 0)
+  pub station_16_zero_speed : station_answer road_a (FlowAndSpeed (whole 80) (whole 0)) ≡ Station.Refused (refused 16 0)
+  pub station_16_flow_nan : station_answer road_a (FlowAndSpeed nan (whole 1)) ≡ Station.Refused (refused 16 0)
+  pub station_16_flow_below_0 : station_answer road_a (FlowAndSpeed least_below_0 huge) ≡ Station.Refused (refused 16 0)
+  pub station_16_speed_nan : station_answer road_a (Speed nan) ≡ Station.Refused (refused 16 0)
+  pub station_16_speed_below_0 : station_answer road_a (Speed least_below_0) ≡ Station.Refused (refused 16 0)
+  pub station_16_speed_infinite : station_answer road_a (Speed (inf false)) ≡ Station.Refused (refused 16 0)
+  pub station_16_flow_infinite : station_answer road_a (FlowAndSpeed (inf false) (whole 1)) ≡ Station.Refused (refused 16 0)
+  pub station_16_beside_nan : station_answer road_a (FlowAndSpeed (whole 80) nan) ≡ Station.Refused (refused 16 0)
+  pub station_16_beside_below_0 : station_answer road_a (FlowAndSpeed (whole 80) −1·0) ≡ Station.Refused (refused 16 0)
+  pub station_16_beside_minus_0 : station_answer road_a (FlowAndSpeed (whole 80) −0·0) ≡ Station.Refused (refused 16 0)
+  pub station_16_density_infinite : station_answer road_a (Density (inf false)) ≡ Station.Refused (refused 16 0)
+  pub station_16_density_below_0 : station_answer road_a (Density −1·0) ≡ Station.Refused (refused 16 0)
+  pub station_17 : station_answer road_a (Speed four_fifths) ≡ Station.Refused (refused 17 0)
+  pub station_17_above : station_answer road_a (Speed (whole 1)) ≡ Station.Refused (refused 17 0)
   -- on D 6, p 5, q 1, J 600, C 100: the greatest double below 5/6, whose product with 6 rounds to 5
-  pub station-17-rounded : stationAnswer (road 6 5 1 600 100) (Speed (of_bits binary64 4605681218924227242)) ≡ Station.Refused (refused 17 0)
-  pub station-18 : stationAnswer roadA (Density (whole 1001)) ≡ Station.Refused (refused 18 0)
-  pub station-18-flow : stationAnswer roadA (FlowAndSpeed (whole 1001) (whole 1)) ≡ Station.Refused (refused 18 0)
-  pub station-18-beyond : stationAnswer roadA (FlowAndSpeed huge (of_bits binary64 1)) ≡ Station.Refused (refused 18 0)
+  pub station_17_rounded : station_answer (road 6 5 1 600 100) (Speed (of_bits binary64 4605681218924227242)) ≡ Station.Refused (refused 17 0)
+  pub station_18 : station_answer road_a (Density (whole 1001)) ≡ Station.Refused (refused 18 0)
+  pub station_18_flow : station_answer road_a (FlowAndSpeed (whole 1001) (whole 1)) ≡ Station.Refused (refused 18 0)
+  pub station_18_beyond : station_answer road_a (FlowAndSpeed huge (of_bits binary64 1)) ≡ Station.Refused (refused 18 0)
   -- how near the next mode is: cells, the end pair, lengths of the numbers and of the changes
-  pub nearest-1 : nearestAnswer road1 three 100 0 3 3 ≡ Nearest.Refused (refused 1 0)
-  pub nearest-2 : nearestAnswer road2 three 100 0 3 3 ≡ Nearest.Refused (refused 2 0)
-  pub nearest-3 : nearestAnswer road3 three 100 0 3 3 ≡ Nearest.Refused (refused 3 0)
-  pub nearest-4 : nearestAnswer road4 three 100 0 3 3 ≡ Nearest.Refused (refused 4 0)
-  pub nearest-5 : nearestAnswer roadA [] 100 0 0 0 ≡ Nearest.Refused (refused 5 0)
-  pub nearest-8-numbers : nearestAnswer roadA three 100 0 4 3 ≡ Nearest.Refused (refused 8 0)
-  pub nearest-8-changes : nearestAnswer roadA three 100 0 3 2 ≡ Nearest.Refused (refused 8 0)
-  pub nearest-9 : nearestAnswer roadA above 100 0 3 3 ≡ Nearest.Refused (refused 9 2)
-  pub nearest-10 : nearestAnswer roadA three 1001 0 3 3 ≡ Nearest.Refused (refused 10 0)
-  pub nearest-11 : nearestAnswer roadA three 100 1001 3 3 ≡ Nearest.Refused (refused 11 0)
+  pub nearest_1 : nearest_answer road1 three 100 0 3 3 ≡ Nearest.Refused (refused 1 0)
+  pub nearest_2 : nearest_answer road2 three 100 0 3 3 ≡ Nearest.Refused (refused 2 0)
+  pub nearest_3 : nearest_answer road3 three 100 0 3 3 ≡ Nearest.Refused (refused 3 0)
+  pub nearest_4 : nearest_answer road4 three 100 0 3 3 ≡ Nearest.Refused (refused 4 0)
+  pub nearest_5 : nearest_answer road_a [] 100 0 0 0 ≡ Nearest.Refused (refused 5 0)
+  pub nearest_8_numbers : nearest_answer road_a three 100 0 4 3 ≡ Nearest.Refused (refused 8 0)
+  pub nearest_8_changes : nearest_answer road_a three 100 0 3 2 ≡ Nearest.Refused (refused 8 0)
+  pub nearest_9 : nearest_answer road_a above 100 0 3 3 ≡ Nearest.Refused (refused 9 2)
+  pub nearest_10 : nearest_answer road_a three 1001 0 3 3 ≡ Nearest.Refused (refused 10 0)
+  pub nearest_11 : nearest_answer road_a three 100 1001 3 3 ≡ Nearest.Refused (refused 11 0)

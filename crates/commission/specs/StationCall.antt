@@ -7,20 +7,20 @@ use Rattle.station.specs.declared.stations.StationReading.{StationReading}
 use Rattle.station.specs.declared.stations.Estimate.{Estimate}
 use Rattle.station.specs.declared.stations.StationAnswer.{StationAnswer}
 use Rattle.station.specs.declared.stations.StationAnswer.TheVariants.{Done}
-use Rattle.station.specs.Station.{stationChecks, meaning, StationChecked, Stations}
+use Rattle.station.specs.Station.{station_checks, meaning, StationChecked, Stations}
 use Rattle.welgadou.specs.Stations.{StationEstimated}
 use Rattle.commission.specs.Outcome.{Outcome}
 use Rattle.commission.specs.Places.{NoPlace}
 
 -- "After the road checks" 16, 17 and 18 (document 02, E1)
-abbrev pub stationNumbers : List ℕ
-stationNumbers = 1 ∷ 2 ∷ 3 ∷ 4 ∷ 16 ∷ 17 ∷ 18 ∷ []
+abbrev pub station_numbers : List ℕ
+station_numbers = 1 ∷ 2 ∷ 3 ∷ 4 ∷ 16 ∷ 17 ∷ 18 ∷ []
 
 -- what came of it: f the refusal that came back
-abbrev pub stationOutcome : Road → StationReading → Refusal → Type 0 → Type 0 → Outcome
-stationOutcome r x f Kept Made = record {
-  checks = stationChecks r x;
-  numbers = stationNumbers;
+abbrev pub station_outcome : Road → StationReading → Refusal → Type 0 → Type 0 → Outcome
+station_outcome r x f Kept Made = record {
+  checks = station_checks r x;
+  numbers = station_numbers;
   Checked = StationChecked r x;
   Placed = NoPlace;
   refusal = f;
@@ -31,9 +31,9 @@ stationOutcome r x f Kept Made = record {
 -- the three kinds of station share one contract for C
 pub data CalledStation : Outcome → Type 1 where
   station : {r : Road} {x : StationReading} {a : StationAnswer}
-      → Stations r x a → CalledStation (stationOutcome r x (refused (meaning a).number (meaning a).place) (Unit {0}) ((e : Estimate) × (a ≡ Done e)))
-  welgadou-station : {r : Road} {x : StationReading} {estimate estimate-next : Float} {place number : ℕ}
-      → StationEstimated r x estimate estimate-next place number → CalledStation (stationOutcome r x (refused number place) (estimate-next ≡ estimate) (Unit {0}))
+      → Stations r x a → CalledStation (station_outcome r x (refused (meaning a).number (meaning a).place) (Unit {0}) ((e : Estimate) × (a ≡ Done e)))
+  welgadou_station : {r : Road} {x : StationReading} {estimate estimate-next : Float} {place number : ℕ}
+      → StationEstimated r x estimate estimate-next place number → CalledStation (station_outcome r x (refused number place) (estimate-next ≡ estimate) (Unit {0}))
 
 -- what an accepted call was given and what it made
 pub record AcceptedStation : Type 0 where
@@ -44,7 +44,7 @@ pub record AcceptedStation : Type 0 where
 pub data StationMade : AcceptedStation → Type 0 where
   station : {r : Road} {x : StationReading} {a : StationAnswer} {e : Estimate}
       → Stations r x a → a ≡ Done e → StationMade (record { road = r; reading = x; estimate = e.density })
-  welgadou-station : {r : Road} {x : StationReading} {estimate estimate-next : Float} {place number : ℕ}
+  welgadou_station : {r : Road} {x : StationReading} {estimate estimate-next : Float} {place number : ℕ}
       → StationEstimated r x estimate estimate-next place number → number ≡ 0
       → StationMade (record { road = r; reading = x; estimate = estimate-next })
 
@@ -57,5 +57,5 @@ pub record AskedStation : Type 0 where
 pub data StationAsked : AskedStation → Type 0 where
   station : {r : Road} {x : StationReading} {a : StationAnswer}
       → Stations r x a → StationAsked (record { road = r; reading = x; number = (meaning a).number })
-  welgadou-station : {r : Road} {x : StationReading} {estimate estimate-next : Float} {place number : ℕ}
+  welgadou_station : {r : Road} {x : StationReading} {estimate estimate-next : Float} {place number : ℕ}
       → StationEstimated r x estimate estimate-next place number → StationAsked (record { road = r; reading = x; number = number })

@@ -4,8 +4,8 @@ use Prim.Native.Nat.{ℕ, zero, suc, ◌+◌, ◌-◌, ◌≤◌, ◌<◌, zero-
 use native.Mathlib.Nat.{le_trans, le_of_suc-le-suc, not-suc-le-zero, sub-zero, sub-eq-zero_of_le}
 use native.Mathlib.Omega.{arith}
 use lib.Dec.{lit≤}
-use Rattle.road.specs.Ceilings.{countCeiling}
-use Rattle.counting.specs.WordCount.{turned, wordCount}
+use Rattle.road.specs.Ceilings.{count_ceiling}
+use Rattle.counting.specs.WordCount.{turned, word_count}
 
 -- more turns never make less
 grows : (n w l d : ℕ) → w + l + d ≤ turned n w l d
@@ -20,29 +20,29 @@ longer (suc n) zero w l d h = absurd (not-suc-le-zero h)
 longer (suc n) (suc m) w l d h = longer n m (w + l + d) (w + d) (l + d) (le_of_suc-le-suc h)
 
 -- the count at the ceiling
-most : wordCount countCeiling ≤ 368206551266960
-unfolding wordCount turned
+most : word_count count_ceiling ≤ 368206551266960
+unfolding word_count turned
 most = lit≤ tt
 
 -- no count up to the ceiling is above it
-count_small : (n : ℕ) → n ≤ countCeiling → wordCount n ≤ 368206551266960
-unfolding wordCount
-count_small n h = le_trans (longer n countCeiling 1 1 1 h) most
+count_small : (n : ℕ) → n ≤ count_ceiling → word_count n ≤ 368206551266960
+unfolding word_count
+count_small n h = le_trans (longer n count_ceiling 1 1 1 h) most
 
 -- the loop after k turns
 pub record Turning (n w l d k : ℕ) : Type 0 where
   pub inside : k ≤ n
-  pub count : turned (n - k) w l d ≡ wordCount n
+  pub count : turned (n - k) w l d ≡ word_count n
 
 module _ (n : ℕ) where
   pub begins : Turning n 1 1 1 0
-  unfolding wordCount
+  unfolding word_count
   begins = record { inside = zero-le; count = rw sub-zero refl }
 
   module _ (w l d k : ℕ) (now : Turning n w l d k) where
     -- every sum of a turn is at most this one
-    pub sum-small : n ≤ countCeiling → w + l + d ≤ 368206551266960
-    sum-small h = let most = count_small n h in let more = grows (n - k) w l d in omega (arith, now.count)
+    pub sum_small : n ≤ count_ceiling → w + l + d ≤ 368206551266960
+    sum_small h = let most = count_small n h in let more = grows (n - k) w l d in omega (arith, now.count)
 
     pub turns : k < n → Turning n (w + l + d) (w + d) (l + d) (k + 1)
     unfolding turned
@@ -50,6 +50,6 @@ module _ (n : ℕ) where
         let left : n - k ≡ suc (n - (k + 1)) = omega arith in
         record { inside = omega arith; count = rw left at now.count }
 
-    pub ends : n ≤ k → w + l + d ≡ wordCount n
+    pub ends : n ≤ k → w + l + d ≡ word_count n
     unfolding turned
     ends h = rw (sub-eq-zero_of_le h) at now.count

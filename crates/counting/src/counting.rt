@@ -1,8 +1,8 @@
 // The word count: how many legal words there are for a number of cells.
 ghost use Rattle.std.specs.Prelude.{◌≡◌, ◌≤◌};
-ghost use Rattle.road.specs.Ceilings.{countCeiling};
-ghost use Rattle.counting.specs.WordCount.{wordCount};
-ghost use Rattle.counting.specs.Count.{countRefusal, CountsWords};
+ghost use Rattle.road.specs.Ceilings.{count_ceiling};
+ghost use Rattle.counting.specs.WordCount.{word_count};
+ghost use Rattle.counting.specs.Count.{count_refusal, CountsWords};
 
 use refusal::Refusal;
 use road::Road;
@@ -22,15 +22,15 @@ pub enum CountAnswer {
 
 // Internal: check 15, the count's only one.
 fn judged(cells: u32) -> Refusal
-    ensures { result ≡ countRefusal cells }
+    ensures { result ≡ count_refusal cells }
 {
     Refusal::none().or_if(Road::COUNT < cells, 15, 0)
 }
 
 // Internal: the words that end in W, L and D, a letter longer with each turn. Up to the ceiling every sum fits 64 bits.
 fn counted(cells: u32) -> u64
-    requires { cells ≤ countCeiling }
-    ensures { result ≡ wordCount cells }
+    requires { cells ≤ count_ceiling }
+    ensures { result ≡ word_count cells }
 {
     let mut w: u64 = 1;
     let mut l: u64 = 1;

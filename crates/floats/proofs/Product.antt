@@ -10,19 +10,19 @@ use lib.Ieee.Scale.{round_same}
 use Rattle.floats.specs.Worth.{Worth}
 use Rattle.floats.proofs.Signs.{signed_mul}
 use Rattle.floats.proofs.Value.{Sized, sized, Valued, valued, worth→value}
-use Rattle.floats.proofs.Round.{Rounded, rounded, rounded-worth}
+use Rattle.floats.proofs.Round.{Rounded, rounded, rounded_worth}
 
-pub mul-round : (f : Format) {x y : Float} {s t : Bool} {a b : ℕ} → Sized x s a → Sized y t b
+pub mul_round : (f : Format) {x y : Float} {s t : Bool} {a b : ℕ} → Sized x s a → Sized y t b
     → mul f x y ≡ round f (unlike s t) (a * b) 1
 unfolding mul
-mul-round f (sized {s} {m} {e} {a} h) (sized {s = t} {m = n} {e = d} {a = b} k) =
+mul_round f (sized {s} {m} {e} {a} h) (sized {s = t} {m = n} {e = d} {a = b} k) =
     round_same f (unlike s t) (m * up e * (n * up d)) (down e * down d) (a * b) 1 (mul-pos (down_pos e) (down_pos d)) (zero-lt-suc 0)
     (mul-one (m * up e * (n * up d)) ∙ ap₂ ◌*◌ h k ∙ mul-mul-mul_comm a (down e) b (down d))
 
-mul-rounded : (f : Format) {x y : Float} {z w : ℤ} → Valued x z → Valued y w → Rounded f (z *ℤ w) (mul f x y)
-mul-rounded f (valued {s} {a} h) (valued {s = t} {a = b} k) =
-    rw (mul-round f h k, ← signed_mul s t a b) (rounded (unlike s t) (a * b))
+mul_rounded : (f : Format) {x y : Float} {z w : ℤ} → Valued x z → Valued y w → Rounded f (z *ℤ w) (mul f x y)
+mul_rounded f (valued {s} {a} h) (valued {s = t} {a = b} k) =
+    rw (mul_round f h k, ← signed_mul s t a b) (rounded (unlike s t) (a * b))
 
-pub mul-worth : (f : Format) {x y : Float} {z w : ℤ} → Worth x z → Worth y w → nat_abs (z *ℤ w) ≤ 2 ^ prec f
+pub mul_worth : (f : Format) {x y : Float} {z w : ℤ} → Worth x z → Worth y w → nat_abs (z *ℤ w) ≤ 2 ^ prec f
     → Worth (mul f x y) (z *ℤ w)
-mul-worth f h k l = rounded-worth (mul-rounded f (worth→value h) (worth→value k)) l
+mul_worth f h k l = rounded_worth (mul_rounded f (worth→value h) (worth→value k)) l

@@ -7,31 +7,31 @@ use lib.IntN.{ℤ, pos, nat_abs}
 use lib.Ieee.{Float, fin, Format, binary32, binary64, prec, round, of_int, of_bits}
 use lib.Ieee.Back.{round_whole}
 use Rattle.floats.specs.Worth.{signed, Worth, exactly}
-use Rattle.floats.proofs.Signs.{natAbs-signed, Plain, Plainly, plainly, plain}
+use Rattle.floats.proofs.Signs.{nat_abs_signed, Plain, Plainly, plainly, plain}
 use Rattle.floats.proofs.Value.{Sized, value→sized, sized→worth}
 
-pub round-sized : (f : Format) (s : Bool) (a : ℕ) → nat_abs (signed s a) ≤ 2 ^ prec f → Sized (round f s a 1) s a
-round-sized f s a h = value→sized (round_whole f s a (rw natAbs-signed at h))
+pub round_sized : (f : Format) (s : Bool) (a : ℕ) → nat_abs (signed s a) ≤ 2 ^ prec f → Sized (round f s a 1) s a
+round_sized f s a h = value→sized (round_whole f s a (rw nat_abs_signed at h))
 
 -- x is the whole number z, rounded to the format
 pub data Rounded (f : Format) : ℤ → Float → Type 0 where
   rounded : (s : Bool) (a : ℕ) → Rounded f (signed s a) (round f s a 1)
 
-pub rounded-worth : {f : Format} {z : ℤ} {x : Float} → Rounded f z x → nat_abs z ≤ 2 ^ prec f → Worth x z
-rounded-worth {f} (rounded s a) h = sized→worth (round-sized f s a h)
+pub rounded_worth : {f : Format} {z : ℤ} {x : Float} → Rounded f z x → nat_abs z ≤ 2 ^ prec f → Worth x z
+rounded_worth {f} (rounded s a) h = sized→worth (round_sized f s a h)
 
 -- ---- an integer as a float
-pub ofInt-round : (f : Format) (s : Bool) (a : ℕ) → Plain s a → of_int f (signed s a) ≡ round f s a 1
+pub of_int_round : (f : Format) (s : Bool) (a : ℕ) → Plain s a → of_int f (signed s a) ≡ round f s a 1
 unfolding of_int
-ofInt-round f false a p = refl
-ofInt-round f true zero p = absurd (lt_irrefl 0 p)
-ofInt-round f true (suc a) p = refl
+of_int_round f false a p = refl
+of_int_round f true zero p = absurd (lt_irrefl 0 p)
+of_int_round f true (suc a) p = refl
 
-pub ofInt-worth : (f : Format) (z : ℤ) → nat_abs z ≤ 2 ^ prec f → Worth (of_int f z) z
-ofInt-worth f z = go (plain z)
+pub of_int_worth : (f : Format) (z : ℤ) → nat_abs z ≤ 2 ^ prec f → Worth (of_int f z) z
+of_int_worth f z = go (plain z)
   where
     go : {z : ℤ} → Plainly z → nat_abs z ≤ 2 ^ prec f → Worth (of_int f z) z
-    go (plainly s a p) h = rw (ofInt-round f s a p) (rounded-worth (rounded s a) h)
+    go (plainly s a p) h = rw (of_int_round f s a p) (rounded_worth (rounded s a) h)
 
 -- ---- the literal 0.0
 pub zero_is : (f : Format) → of_bits f 0 ≡ fin false 0 (pos 0)
@@ -39,5 +39,5 @@ unfolding of_bits
 zero_is binary32 = refl
 zero_is binary64 = refl
 
-pub zero-worth : (f : Format) → Worth (of_bits f 0) (pos 0)
-zero-worth f = rw (zero_is f) (exactly refl)
+pub zero_worth : (f : Format) → Worth (of_bits f 0) (pos 0)
+zero_worth f = rw (zero_is f) (exactly refl)

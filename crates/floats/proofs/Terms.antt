@@ -7,7 +7,7 @@ use native.Mathlib.Nat.{mul-pos, add-mul, zero-mul}
 use native.Mathlib.Omega.{arith}
 use lib.IntN.{◌+ℤ◌}
 use Rattle.floats.specs.Worth.{signed}
-use Rattle.floats.proofs.Signs.{Plain, above, signed_add, signed-behind, signed-ahead, opposite}
+use Rattle.floats.proofs.Signs.{Plain, above, signed_add, signed_behind, signed_ahead, opposite}
 
 -- u and c are the sign and the size of the sum
 pub data Adds : Bool → ℕ → Bool → ℕ → Bool → ℕ → Type 0 where
@@ -31,22 +31,22 @@ adds true a false b = against true a b
 adds true a true b = (true, a + b, alike)
 
 -- a positive multiple of both terms gives that multiple of the sum
-pub adds-times : {s t u : Bool} {a b c : ℕ} (d : ℕ) → 0 < d → Adds s a t b u c → Adds s (a * d) t (b * d) u (c * d)
-adds-times d p (alike {a} {b}) = rw (add-mul a b d) alike
-adds-times d p (behind {a} {c} e h) = behind (sym (add-mul a c d) ∙ ap (λ (n : ℕ). n * d) e) (mul-pos h p)
-adds-times d p (ahead {b} {c} e h) = ahead (sym (add-mul b c d) ∙ ap (λ (n : ℕ). n * d) e) (mul-pos h p)
-adds-times d p (level e) = rw (zero-mul d) (level (ap (λ (n : ℕ). n * d) e))
+pub adds_times : {s t u : Bool} {a b c : ℕ} (d : ℕ) → 0 < d → Adds s a t b u c → Adds s (a * d) t (b * d) u (c * d)
+adds_times d p (alike {a} {b}) = rw (add-mul a b d) alike
+adds_times d p (behind {a} {c} e h) = behind (sym (add-mul a c d) ∙ ap (λ (n : ℕ). n * d) e) (mul-pos h p)
+adds_times d p (ahead {b} {c} e h) = ahead (sym (add-mul b c d) ∙ ap (λ (n : ℕ). n * d) e) (mul-pos h p)
+adds_times d p (level e) = rw (zero-mul d) (level (ap (λ (n : ℕ). n * d) e))
 
-pub adds-signed : {s t u : Bool} {a b c : ℕ} → Adds s a t b u c → signed u c ≡ signed s a +ℤ signed t b
-adds-signed (alike {s} {a} {b}) = signed_add s a b
-adds-signed (behind {s} {a} {c} e h) = rw (← e) (signed-behind s a c)
-adds-signed (ahead {s} {b} {c} e h) = rw (← e) (signed-ahead s b c)
-adds-signed (level {s} {a} e) = rw (← e) (sym (opposite s a))
+pub adds_signed : {s t u : Bool} {a b c : ℕ} → Adds s a t b u c → signed u c ≡ signed s a +ℤ signed t b
+adds_signed (alike {s} {a} {b}) = signed_add s a b
+adds_signed (behind {s} {a} {c} e h) = rw (← e) (signed_behind s a c)
+adds_signed (ahead {s} {b} {c} e h) = rw (← e) (signed_ahead s b c)
+adds_signed (level {s} {a} e) = rw (← e) (sym (opposite s a))
 
 -- no −0 as the second term, no −0 as the sum
-pub adds-plain : {s t u : Bool} {a b c : ℕ} → Adds s a t b u c → Plain t b → Plain u c
-adds-plain (alike {s = false}) p = tt
-adds-plain (alike {s = true} {a} {b}) p = omega arith
-adds-plain (behind {s} e h) p = above (not s) h
-adds-plain (ahead {s} e h) p = above s h
-adds-plain (level e) p = tt
+pub adds_plain : {s t u : Bool} {a b c : ℕ} → Adds s a t b u c → Plain t b → Plain u c
+adds_plain (alike {s = false}) p = tt
+adds_plain (alike {s = true} {a} {b}) p = omega arith
+adds_plain (behind {s} e h) p = above (not s) h
+adds_plain (ahead {s} e h) p = above s h
+adds_plain (level e) p = tt

@@ -8,7 +8,7 @@ use lib.Ieee.{Float, nan, inf, fin, up, down}
 use lib.Ieee.Exact.{HasValue}
 use lib.Ieee.Fits.{down_pos}
 use Rattle.floats.specs.Worth.{signed, Worth, exactly}
-use Rattle.floats.proofs.Signs.{signed-times, same_size, same_sign}
+use Rattle.floats.proofs.Signs.{signed_times, same_size, same_sign}
 
 -- the float's sign is s, and its size is the whole number a
 pub data Sized : Float → Bool → ℕ → Type 0 where
@@ -21,7 +21,7 @@ value→sized {x = inf t} v = absurd v
 value→sized {x = fin t m e} v = rw (← v.0) (sized (sym (mul-one (m * up e)) ∙ v.1))
 
 pub sized→worth : {x : Float} {s : Bool} {a : ℕ} → Sized x s a → Worth x (signed s a)
-sized→worth (sized {s} {e} {a} h) = exactly (ap (signed s) h ∙ signed-times s a (down e))
+sized→worth (sized {s} {e} {a} h) = exactly (ap (signed s) h ∙ signed_times s a (down e))
 
 -- a float that is the whole number z, with the sign and the size that make z
 pub data Valued (x : Float) : ℤ → Type 0 where

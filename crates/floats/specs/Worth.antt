@@ -18,11 +18,11 @@ pub data FiniteUpTo (j : ℕ) : Float → Type 0 where
 
 -- The float is a finite number from c to j, both included: times `down e` it is a whole number a from c × down e to j × down e. A NaN and an infinity are none.
 pub data FiniteFrom (c j : ℕ) : Float → Type 0 where
-  finite-from : {s : Bool} {m a : ℕ} {e : ℤ} → signed s (m * up e) ≡ pos a → c * down e ≤ a → a ≤ j * down e → FiniteFrom c j (fin s m e)
+  finite_from : {s : Bool} {m a : ℕ} {e : ℤ} → signed s (m * up e) ≡ pos a → c * down e ≤ a → a ≤ j * down e → FiniteFrom c j (fin s m e)
 
 -- The float is a finite number not below 0: times `down e` it is a whole number from 0 on. A NaN and an infinity are none, and −0.0 is 0.
 pub data NotBelow0 : Float → Type 0 where
-  not-below : {s : Bool} {m a : ℕ} {e : ℤ} → signed s (m * up e) ≡ pos a → NotBelow0 (fin s m e)
+  not_below : {s : Bool} {m a : ℕ} {e : ℤ} → signed s (m * up e) ≡ pos a → NotBelow0 (fin s m e)
 
 -- The float is a finite number above 0: times `down e` it is a whole number from 1 on.
 pub data Above0 : Float → Type 0 where
@@ -33,7 +33,7 @@ pub data SlowerThan (p : ℕ) : Float → Type 0 where
   slower : {s : Bool} {m a : ℕ} {e : ℤ} → signed s (m * up e) ≡ pos a → a < p * down e → SlowerThan p (fin s m e)
 
 -- What the tests `x != x`, `x < 0.0` and `x > j` leave where none of them refuses x: for a j up to 2 ^ prec f the finite
--- numbers from 0 to j, as `finite-of-passes` and `passes-of-finite` show.
+-- numbers from 0 to j, as `finite_of_passes` and `passes_of_finite` show.
 pub record Passes (f : Format) (j : ℕ) (x : Float) : Type 0 where
   pub known : ne x x ≡ false
   pub low : lt x (of_bits f 0) ≡ false

@@ -7,5 +7,5 @@ use mir.Syntax.{w32}
 use mir.Val.{to_z}
 use mir.ValLaws.{to_z_pos}
 
-pub signed-less : (a b : ℕ) → a < 2 ^ 31 → b < 2 ^ 31 → lt_z (to_z w32 a) (to_z w32 b) ≡ ltb a b
-signed-less a b p q = ap₂ lt_z (to_z_pos w32 a p) (to_z_pos w32 b q)
+pub signed_less : (a b : ℕ) → a < 2 ^ 31 → b < 2 ^ 31 → lt_z (to_z w32 a) (to_z w32 b) ≡ ltb a b
+signed_less a b p q = ap₂ lt_z (to_z_pos w32 a p) (to_z_pos w32 b q)

@@ -7,6 +7,6 @@ use mir.Val.{Fits}
 use Rattle.road.specs.Judgement.{Accepted}
 use Rattle.road.specs.declared.Road.{Road}
 
-pub product-fits : {r : Road} → Accepted r → (speed x : ℕ) → speed ≤ r.divisor → x ≤ r.jam → Fits w32 (speed * x)
-product-fits a speed x s h =
-    record { fits = lt_of_le_of_lt (mul-le-mul (le_trans s a.divisor-high) (le_trans h a.jam-high)) (lit< tt) }
+pub product_fits : {r : Road} → Accepted r → (speed x : ℕ) → speed ≤ r.divisor → x ≤ r.jam → Fits w32 (speed * x)
+product_fits a speed x s h =
+    record { fits = lt_of_le_of_lt (mul-le-mul (le_trans s a.divisor_high) (le_trans h a.jam_high)) (lit< tt) }

@@ -19,7 +19,7 @@ numerator r a b = min (sending r a) (receiving r b)
 unfoldable pub units : Road → ℕ → ℕ
 units r f = (2 * f + r.divisor) / (2 * r.divisor)
 
--- u is the nearest whole number to f / d: f / d lies from u − ½, included, to u + ½, excluded. `units-nearest` shows it of the units, `nearest-once` of no other number
+-- u is the nearest whole number to f / d: f / d lies from u − ½, included, to u + ½, excluded. `units_nearest` shows it of the units, `nearest_once` of no other number
 pub record NearestUnits (d f u : ℕ) : Type 0 where
   pub low : 2 * d * u ≤ 2 * f + d
   pub high : 2 * f + d < 2 * d * (u + 1)
@@ -29,24 +29,24 @@ unfoldable pub scaled : ℕ → Road → Road
 scaled z r = record { divisor = r.divisor; free = r.free; wave = r.wave; jam = z * r.jam; critical = z * r.critical }
 
 -- the letters' codes
-abbrev pub letterW : ℕ
-letterW = 0
+abbrev pub letter_w : ℕ
+letter_w = 0
 
-abbrev pub letterL : ℕ
-letterL = 1
+abbrev pub letter_l : ℕ
+letter_l = 1
 
-abbrev pub letterD : ℕ
-letterD = 2
+abbrev pub letter_d : ℕ
+letter_d = 2
 
 -- the regions of the letters, source 004 (III.10)
 -- W: b > C and q × (J − b) < p × a
-unfoldable pub inW : Road → ℕ → ℕ → Bool
-inW r a b = both (ltb r.critical b) (ltb (r.wave * (r.jam - b)) (r.free * a))
+unfoldable pub in_w : Road → ℕ → ℕ → Bool
+in_w r a b = both (ltb r.critical b) (ltb (r.wave * (r.jam - b)) (r.free * a))
 
 -- L: a > C and b ≤ C
-unfoldable pub inL : Road → ℕ → ℕ → Bool
-inL r a b = both (ltb r.critical a) (leb b r.critical)
+unfoldable pub in_l : Road → ℕ → ℕ → Bool
+in_l r a b = both (ltb r.critical a) (leb b r.critical)
 
--- the letter of a face: W or L in their regions, and D in what is left, which `one-letter` shows to be its region (a ≤ C and q × (J − b) ≥ p × a)
+-- the letter of a face: W or L in their regions, and D in what is left, which `one_letter` shows to be its region (a ≤ C and q × (J − b) ≥ p × a)
 unfoldable pub letter : Road → ℕ → ℕ → ℕ
-letter r a b = pick (inW r a b) letterW (pick (inL r a b) letterL letterD)
+letter r a b = pick (in_w r a b) letter_w (pick (in_l r a b) letter_l letter_d)

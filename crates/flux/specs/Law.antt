@@ -12,12 +12,12 @@ pub record Law (m j c : ℕ) (F : ℕ → ℕ → ℕ) : Type 0 where
   pub room : (a b : ℕ) → F a b ≤ m * (j - b)
   -- up to critical a cell's own density does not change what it receives, and what it sends grows by at most m a unit
   pub free_in : (l o o' : ℕ) → o ≤ o' → o' ≤ c → F l o ≡ F l o'
-  pub free-out : (o o' r : ℕ) → o ≤ o' → o' ≤ c → F o' r ≤ F o r + m * (o' - o)
+  pub free_out : (o o' r : ℕ) → o ≤ o' → o' ≤ c → F o' r ≤ F o r + m * (o' - o)
   -- from critical on it does not change what it sends, and what it receives shrinks by at most m a unit
-  pub full-out : (o o' r : ℕ) → c ≤ o → o ≤ o' → F o r ≡ F o' r
-  pub full-in : (l o o' : ℕ) → c ≤ o → o ≤ o' → F l o ≤ F l o' + m * (o' - o)
+  pub full_out : (o o' r : ℕ) → c ≤ o → o ≤ o' → F o r ≡ F o' r
+  pub full_in : (l o o' : ℕ) → c ≤ o → o ≤ o' → F l o ≤ F l o' + m * (o' - o)
 
 -- all that the laws need of a road: the step-size condition, p ≤ D and q ≤ D. A road at another scale has it, though it is not accepted
 pub record Sound (r : Road) : Type 0 where
-  pub free-high : r.free ≤ r.divisor
-  pub wave-high : r.wave ≤ r.divisor
+  pub free_high : r.free ≤ r.divisor
+  pub wave_high : r.wave ≤ r.divisor

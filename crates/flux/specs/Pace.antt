@@ -11,26 +11,26 @@ unfoldable pub multiplier : ℕ → ℕ → ℕ
 multiplier x d = (x * 2 ^ 32 + (d - 1)) / d
 
 -- a speed below the divisor: speed/divisor as a multiplier, and the half that rounding adds, half the divisor, rounded down, over the divisor
-unfoldable pub slowFactor : ℕ → ℕ → Factor
-slowFactor speed divisor = record { times = multiplier speed divisor; offset = multiplier (divisor / 2) divisor }
+unfoldable pub slow_factor : ℕ → ℕ → Factor
+slow_factor speed divisor = record { times = multiplier speed divisor; offset = multiplier (divisor / 2) divisor }
 
 -- a speed of the whole divisor: the largest multiplier, which is short of one by 1/2^32, and half a unit, which makes up for it
-unfoldable pub wholeFactor : Factor
-wholeFactor = record { times = 2 ^ 32 - 1; offset = 2 ^ 31 }
+unfoldable pub whole_factor : Factor
+whole_factor = record { times = 2 ^ 32 - 1; offset = 2 ^ 31 }
 
 -- the factor of speed/divisor
-unfoldable pub factorOf : ℕ → ℕ → Factor
-factorOf speed divisor = pick (ltb speed divisor) (slowFactor speed divisor) wholeFactor
+unfoldable pub factor_of : ℕ → ℕ → Factor
+factor_of speed divisor = pick (ltb speed divisor) (slow_factor speed divisor) whole_factor
 
 -- a density's part by a factor
 unfoldable pub part : Factor → ℕ → ℕ
 part f a = (a * f.times + f.offset) / 2 ^ 32
 
 -- the road with its factors, and its capacity: the units at critical
-unfoldable pub paceOf : Road → Pace
-paceOf r = record {
+unfoldable pub pace_of : Road → Pace
+pace_of r = record {
   road = r;
-  send = factorOf r.free r.divisor;
-  receive = factorOf r.wave r.divisor;
+  send = factor_of r.free r.divisor;
+  receive = factor_of r.wave r.divisor;
   capacity = units r (r.free * r.critical);
 }

@@ -4,12 +4,12 @@ use Rattle.road.specs.declared.Road.{Road}
 use Rattle.flux.specs.Face.{sending, receiving}
 
 -- of the left face, with density a upstream: J − ⌈what is sent / q⌉, the highest density at which the cell receives all that is sent
-unfoldable pub leftThreshold : Road → ℕ → ℕ
-leftThreshold r a = r.jam - (sending r a + (r.wave - 1)) / r.wave
+unfoldable pub left_threshold : Road → ℕ → ℕ
+left_threshold r a = r.jam - (sending r a + (r.wave - 1)) / r.wave
 
 -- of the right face, with density b downstream: what is received / p, rounded down, the highest density x at which p × x is received whole
-unfoldable pub rightThreshold : Road → ℕ → ℕ
-rightThreshold r b = receiving r b / r.free
+unfoldable pub right_threshold : Road → ℕ → ℕ
+right_threshold r b = receiving r b / r.free
 
 -- a letter as the own density has it, up to j: one letter up to the threshold t, another above
 pub record Split (j t : ℕ) (letterAt : ℕ → ℕ) (low high : ℕ) : Type 0 where

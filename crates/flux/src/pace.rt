@@ -1,9 +1,9 @@
 // The units of a face by multiplication and shift: no step divides, so that the loop above can be vectorized.
 ghost use Rattle.std.specs.Prelude.{◌≡◌, ◌≤◌, ◌<◌, ◌^◌, min};
-ghost use Rattle.road.specs.Ceilings.{divisorCeiling, jamCeiling};
+ghost use Rattle.road.specs.Ceilings.{divisor_ceiling, jam_ceiling};
 ghost use Rattle.road.specs.Judgement.{Accepted};
 ghost use Rattle.flux.specs.Face.{numerator, units};
-ghost use Rattle.flux.specs.Pace.{multiplier, factorOf, part, paceOf};
+ghost use Rattle.flux.specs.Pace.{multiplier, factor_of, part, pace_of};
 
 use super::face;
 use road::Road;
@@ -27,7 +27,7 @@ pub struct Pace {
 
 // Internal: x/divisor, below one, in parts of 1/2^32, rounded up.
 fn multiplier(x: u32, divisor: u32) -> u32
-    requires divisor_le_divisor_ceiling { divisor ≤ divisorCeiling }
+    requires divisor_le_divisor_ceiling { divisor ≤ divisor_ceiling }
     requires x_lt_divisor { x < divisor }
     ensures { result ≡ multiplier x divisor }
 {
@@ -39,8 +39,8 @@ impl Factor {
     // Internal: the factor of speed/divisor.
     pub fn of(speed: u32, divisor: u32) -> Factor
         requires divisor_nonzero { 0 < divisor }
-        requires divisor_le_divisor_ceiling { divisor ≤ divisorCeiling }
-        ensures { result ≡ factorOf speed divisor }
+        requires divisor_le_divisor_ceiling { divisor ≤ divisor_ceiling }
+        ensures { result ≡ factor_of speed divisor }
     {
         if speed < divisor {
             Factor {
@@ -57,7 +57,7 @@ impl Factor {
 
     // Internal: a density's part.
     pub fn part(self, a: u32) -> u32
-        requires { a ≤ jamCeiling }
+        requires { a ≤ jam_ceiling }
         ensures { result ≡ part self a }
     {
         (((a as u64) * (self.times as u64) + (self.offset as u64)) >> 32) as u32
@@ -77,7 +77,7 @@ impl Pace {
     // Internal: the pace of a road.
     pub fn of(r: Road) -> Pace
         requires { Accepted r }
-        ensures { result ≡ paceOf r }
+        ensures { result ≡ pace_of r }
     {
         Pace {
             road: r,
@@ -91,7 +91,7 @@ impl Pace {
     // signed comparison would take for a negative one: it is cut at the capacity first.
     pub fn flow(self, a: u32, b: u32, cap: u32) -> u32
         requires accepted { Accepted self.road }
-        requires self_value { self ≡ paceOf self.road }
+        requires self_value { self ≡ pace_of self.road }
         requires a_le_jam { a ≤ self.road.jam }
         requires b_le_jam { b ≤ self.road.jam }
         ensures { result ≡ min (units self.road (numerator self.road a b)) cap }

@@ -1,7 +1,7 @@
 // The forecast: the densities after T steps, the units entered and left, and the totals of these since commissioning.
 ghost use Rattle.std.specs.Prelude.{◌≡◌, length};
 ghost use Rattle.scheme.specs.Calls.{Ran};
-ghost use Rattle.forecast.specs.Forecast.{shapeRefusal, inputRefusal, passesLargest, InputChecked, carriedOn, Fits, Forecasts};
+ghost use Rattle.forecast.specs.Forecast.{shape_refusal, input_refusal, passes_largest, InputChecked, carried_on, Fits, Forecasts};
 
 use super::copying::copy;
 use choice::either;
@@ -40,7 +40,7 @@ fn judged_shape(
     horizon: u32,
     out: usize,
 ) -> Refusal
-    ensures { result ≡ shapeRefusal road caps cells ups downs horizon out }
+    ensures { result ≡ shape_refusal road caps cells ups downs horizon out }
 {
     let bad_cells = checks::bad_cells(cells);
     let bad_horizon = checks::bad_horizon(horizon);
@@ -66,7 +66,7 @@ fn judged(
     horizon: u32,
     out: usize,
 ) -> Refusal
-    ensures { result ≡ inputRefusal road caps.now cells.now upstream.now downstream.now horizon out }
+    ensures { result ≡ input_refusal road caps.now cells.now upstream.now downstream.now horizon out }
 {
     let shape = judged_shape(
         road,
@@ -91,7 +91,7 @@ fn judged(
 
 // Internal: whether a total would pass the largest with so many units more. Nothing is added before it is known to fit.
 fn would_pass(total: u64, more: u64) -> bool
-    ensures { result ≡ passesLargest total more }
+    ensures { result ≡ passes_largest total more }
 {
     LARGEST - total < more
 }
@@ -99,7 +99,7 @@ fn would_pass(total: u64, more: u64) -> bool
 // Internal: the totals so far with a call's own units in them, beside these.
 fn carried(totals: Totals, own: Totals) -> Record
     requires { Fits totals own }
-    ensures { result ≡ carriedOn totals own }
+    ensures { result ≡ carried_on totals own }
 {
     let entered = totals.entered + own.entered;
     let left = totals.left + own.left;

@@ -1,6 +1,6 @@
 // The settling run: whether the road settles with one end pair, and the state it settles to.
 ghost use Rattle.std.specs.Prelude.{◌≡◌};
-ghost use Rattle.forecast.specs.Settle.{settleShapeRefusal, settleRefusal, Settles};
+ghost use Rattle.forecast.specs.Settle.{settle_shape_refusal, settle_refusal, Settles};
 
 use super::copying::copy;
 use flux::Pace;
@@ -17,7 +17,7 @@ pub enum SettleAnswer {
 
 // Internal: checks 1 to 6, 8 and 20, of the road and of the lists' lengths.
 fn judged_shape(road: Road, caps: usize, cells: usize, horizon: u32, out: usize) -> Refusal
-    ensures { result ≡ settleShapeRefusal road caps cells horizon out }
+    ensures { result ≡ settle_shape_refusal road caps cells horizon out }
 {
     let bad_cells = checks::bad_cells(cells);
     let bad_horizon = checks::bad_horizon(horizon);
@@ -40,7 +40,7 @@ fn judged(
     horizon: u32,
     out: usize,
 ) -> Refusal
-    ensures { result ≡ settleRefusal road caps.now cells.now up down horizon out }
+    ensures { result ≡ settle_refusal road caps.now cells.now up down horizon out }
 {
     let shape = judged_shape(road, caps.len(), cells.len(), horizon, out);
     if shape.number != 0 {

@@ -10,7 +10,7 @@ use lib.ListN.{length, get_or, drop, drop_of_length-le}
 use lib.Seq.{drop-cons}
 use Rattle.choice.specs.Choice.{pick}
 use Rattle.choice.proofs.Choice.{one_at_most}
-use Rattle.modes.specs.Reading.{count_of, queuedOf}
+use Rattle.modes.specs.Reading.{count_of, queued_of}
 
 -- a count of those that pass: none of no list, and one more where the first one passes
 pub record CountOfThose (test : ℕ → Bool) (count : List ℕ → ℕ) : Type 0 where
@@ -18,13 +18,13 @@ pub record CountOfThose (test : ℕ → Bool) (count : List ℕ → ℕ) : Type 
   pub first : (x : ℕ) (xs : List ℕ) → count (x ∷ xs) ≡ pick (test x) 1 0 + count xs
 
 -- the modes that are k, and the cells that are queued
-pub modes-counted : (k : ℕ) → CountOfThose (λ m. eqb m k) (count_of k)
+pub modes_counted : (k : ℕ) → CountOfThose (λ m. eqb m k) (count_of k)
 unfolding count_of
-modes-counted k = record { none = refl; first = λ m ms. refl }
+modes_counted k = record { none = refl; first = λ m ms. refl }
 
-pub cells-counted : (c : ℕ) → CountOfThose (ltb c) (queuedOf c)
-unfolding queuedOf
-cells-counted c = record { none = refl; first = λ x xs. refl }
+pub cells_counted : (c : ℕ) → CountOfThose (ltb c) (queued_of c)
+unfolding queued_of
+cells_counted c = record { none = refl; first = λ x xs. refl }
 
 pub record Counting (count : List ℕ → ℕ) (xs : List ℕ) (so_far i : ℕ) : Type 0 where
   pub rest : so_far + count (drop i xs) ≡ count xs

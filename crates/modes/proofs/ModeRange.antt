@@ -5,22 +5,22 @@ use native.Mathlib.Omega.{arith}
 use lib.Dec.{T, leb, leb→le}
 use Rattle.choice.specs.Choice.{both}
 use Rattle.choice.proofs.Choice.{both_left, both_right}
-use Rattle.choice.proofs.Grid.{upto, grid-at}
-use Rattle.flux.specs.Face.{letterD}
+use Rattle.choice.proofs.Grid.{upto, grid_at}
+use Rattle.flux.specs.Face.{letter_d}
 use Rattle.modes.specs.Modes.{mode_of}
 
 -- a pair of letters has a mode from 1 to 7
 numbered : ℕ → ℕ → Bool
 numbered s t = both (leb 1 (mode_of s t)) (leb (mode_of s t) 7)
 
-modes-numbered : T (upto 3 (λ s. upto 3 (numbered s)))
+modes_numbered : T (upto 3 (λ s. upto 3 (numbered s)))
 unfolding numbered mode_of
-modes-numbered = tt
+modes_numbered = tt
 
-pub mode-range : (s t : ℕ) → s ≤ letterD → t ≤ letterD → (1 ≤ mode_of s t) × (mode_of s t ≤ 7)
+pub mode_range : (s t : ℕ) → s ≤ letter_d → t ≤ letter_d → (1 ≤ mode_of s t) × (mode_of s t ≤ 7)
 unfolding numbered
-mode-range s t h g =
-    let passed = grid-at 3 3 numbered modes-numbered s t (omega arith) (omega arith) in
+mode_range s t h g =
+    let passed = grid_at 3 3 numbered modes_numbered s t (omega arith) (omega arith) in
     let low = leb 1 (mode_of s t) in
     let high = leb (mode_of s t) 7 in
     (leb→le 1 (mode_of s t) (both_left low high passed), leb→le (mode_of s t) 7 (both_right low high passed))

@@ -2,7 +2,7 @@
 use Rattle.std.specs.Prelude.{◌≡◌, List, [], ◌∷◌, ℕ, ◌+◌, ◌≤◌, eqb, length, get_or}
 use Rattle.choice.specs.Choice.{pick, or}
 use Rattle.road.specs.declared.Road.{Road}
-use Rattle.flux.specs.Face.{letterW, letterL, letterD}
+use Rattle.flux.specs.Face.{letter_w, letter_l, letter_d}
 use Rattle.scheme.specs.Word.{word_of}
 use Rattle.modes.specs.Reading.{ReadChecked, Reads}
 use Rattle.modes.specs.declared.reading.ReadAnswer.TheVariants.{Done}
@@ -10,17 +10,17 @@ use Rattle.modes.specs.declared.reading.StateReading.{StateReading}
 
 -- a state with a given legal word, of the densities 0, C and J alone. Between the letters s and t stands J where s is W or t is L, C where t is W after L or D, and 0 otherwise
 unfoldable pub between : Road → ℕ → ℕ → ℕ
-between r s t = pick (or (eqb s letterW) (eqb t letterL)) r.jam (pick (eqb t letterW) r.critical 0)
+between r s t = pick (or (eqb s letter_w) (eqb t letter_l)) r.jam (pick (eqb t letter_w) r.critical 0)
 
 -- ghost 0 stands as if after D, so by the first letter W: C, L: J, D: 0
-unfoldable pub upstreamOf : Road → List ℕ → ℕ
-upstreamOf r word = between r letterD (get_or word 0 letterD)
+unfoldable pub upstream_of : Road → List ℕ → ℕ
+upstream_of r word = between r letter_d (get_or word 0 letter_d)
 
 -- ghost n+1 stands as if before D, so by the last letter W: J, else 0
-unfoldable pub downstreamOf : Road → List ℕ → ℕ
-downstreamOf r [] = 0
-downstreamOf r (s ∷ []) = between r s letterD
-downstreamOf r (s ∷ t ∷ ss) = downstreamOf r (t ∷ ss)
+unfoldable pub downstream_of : Road → List ℕ → ℕ
+downstream_of r [] = 0
+downstream_of r (s ∷ []) = between r s letter_d
+downstream_of r (s ∷ t ∷ ss) = downstream_of r (t ∷ ss)
 
 -- the cells, each between two letters
 unfoldable pub cells_of : Road → List ℕ → List ℕ
@@ -30,16 +30,16 @@ cells_of r (s ∷ t ∷ ss) = between r s t ∷ cells_of r (t ∷ ss)
 
 -- a word and the state that is given for it: it is the state's word, there is a cell for each two neighbouring letters, and no density is above jam
 pub record Occurs (r : Road) (word : List ℕ) : Type 0 where
-  pub same : word_of r (upstreamOf r word) (downstreamOf r word) (cells_of r word) ≡ word
+  pub same : word_of r (upstream_of r word) (downstream_of r word) (cells_of r word) ≡ word
   pub cells : length (cells_of r word) + 1 ≡ length word
-  pub upstream : upstreamOf r word ≤ r.jam
-  pub downstream : downstreamOf r word ≤ r.jam
+  pub upstream : upstream_of r word ≤ r.jam
+  pub downstream : downstream_of r word ≤ r.jam
   pub below : (i : ℕ) → get_or (cells_of r word) i 0 ≤ r.jam
 
 -- "the word of some accepted state": the state given for the word has it and passes every check of the reading, and a reading of it is made and writes the word
 pub record ReadOff (r : Road) (word : List ℕ) : Type 0 where
-  pub own : word_of r (upstreamOf r word) (downstreamOf r word) (cells_of r word) ≡ word
-  pub checked : ReadChecked r (cells_of r word) (upstreamOf r word) (downstreamOf r word) (length word) (length (cells_of r word))
-  pub written : (letters next-letters modes next-modes : List ℕ) (a : StateReading)
-      → Reads r (cells_of r word) (upstreamOf r word) (downstreamOf r word) letters next-letters modes next-modes a
+  pub own : word_of r (upstream_of r word) (downstream_of r word) (cells_of r word) ≡ word
+  pub checked : ReadChecked r (cells_of r word) (upstream_of r word) (downstream_of r word) (length word) (length (cells_of r word))
+  pub written : (letters next-letters modes next_modes : List ℕ) (a : StateReading)
+      → Reads r (cells_of r word) (upstream_of r word) (downstream_of r word) letters next-letters modes next_modes a
       → length letters ≡ length word → length modes ≡ length (cells_of r word) → (a.answer ≡ Done) × (next-letters ≡ word)

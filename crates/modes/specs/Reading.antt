@@ -1,7 +1,7 @@
 -- The reading of a state: letters, modes, seven counts and the queued cells (document 01, "Seven modes"; document 02, E6).
 use Rattle.std.specs.Prelude.{◌≡◌, true, List, [], ◌∷◌, ℕ, ◌+◌, ◌≤◌, ◌<◌, eqb, ltb, length, get_or}
 use Rattle.choice.specs.Choice.{pick}
-use Rattle.refusal.specs.Table.{refused, Judged, unlessRefused}
+use Rattle.refusal.specs.Table.{refused, Judged, unless_refused}
 use Rattle.road.specs.declared.Road.{Road}
 use Rattle.refusal.specs.declared.Refusal.{Refusal}
 use Rattle.checks.specs.Places.{Placed}
@@ -11,9 +11,9 @@ use Rattle.scheme.specs.Advance.{padded}
 use Rattle.scheme.specs.Sums.{sum}
 use Rattle.scheme.specs.Word.{word_of}
 use Rattle.words.specs.Words.{legal}
-use Rattle.modes.specs.Modes.{modesOf}
-use Rattle.modes.specs.Judging.{readChecks, readRefusal}
-use Rattle.modes.specs.Fit.{allHold, LetteredWord, Fits, AnswersFit}
+use Rattle.modes.specs.Modes.{modes_of}
+use Rattle.modes.specs.Judging.{read_checks, read_refusal}
+use Rattle.modes.specs.Fit.{all_letters_hold, LetteredWord, Fits, AnswersFit}
 use Rattle.modes.specs.declared.fitting.FitAnswer.{FitAnswer}
 use Rattle.modes.specs.declared.reading.ReadAnswer.{ReadAnswer}
 use Rattle.modes.specs.declared.reading.ReadAnswer.TheVariants.{Done, Refused}
@@ -26,60 +26,60 @@ count_of k [] = 0
 count_of k (m ∷ ms) = pick (eqb m k) 1 0 + count_of k ms
 
 -- seven counts, one for each mode
-unfoldable pub countsOf : List ℕ → List ℕ
-countsOf ms = count_of 1 ms ∷ count_of 2 ms ∷ count_of 3 ms ∷ count_of 4 ms ∷ count_of 5 ms ∷ count_of 6 ms ∷ count_of 7 ms ∷ []
+unfoldable pub counts_of : List ℕ → List ℕ
+counts_of ms = count_of 1 ms ∷ count_of 2 ms ∷ count_of 3 ms ∷ count_of 4 ms ∷ count_of 5 ms ∷ count_of 6 ms ∷ count_of 7 ms ∷ []
 
 -- the queued cells: those whose density exceeds C (document 02, E6); document 01's meaning, modes 1, 2 and 3, which source 003 calls congestion, is replaced
-unfoldable pub queuedOf : ℕ → List ℕ → ℕ
-queuedOf c [] = 0
-queuedOf c (x ∷ xs) = pick (ltb c x) 1 0 + queuedOf c xs
+unfoldable pub queued_of : ℕ → List ℕ → ℕ
+queued_of c [] = 0
+queued_of c (x ∷ xs) = pick (ltb c x) 1 0 + queued_of c xs
 
 -- every mode is one of the seven
 abbrev pub Numbered : List ℕ → Type 0
 Numbered ms = (i : ℕ) → i < length ms → (1 ≤ get_or ms i 0) × (get_or ms i 0 ≤ 7)
 
 -- the counts of a state's modes, and its queued cells
-abbrev pub countsFor : Road → List ℕ → List ℕ → Counts
-countsFor r cells modes = record { modes = countsOf modes; queued = queuedOf r.critical cells }
+abbrev pub counts_for : Road → List ℕ → List ℕ → Counts
+counts_for r cells modes = record { modes = counts_of modes; queued = queued_of r.critical cells }
 
 -- no counts
-abbrev pub noCounts : Counts
-noCounts = record { modes = 0 ∷ 0 ∷ 0 ∷ 0 ∷ 0 ∷ 0 ∷ 0 ∷ []; queued = 0 }
+abbrev pub no_counts : Counts
+no_counts = record { modes = 0 ∷ 0 ∷ 0 ∷ 0 ∷ 0 ∷ 0 ∷ 0 ∷ []; queued = 0 }
 
 -- what an input that no check refuses is
 pub record ReadChecked (r : Road) (cells : List ℕ) (up down letters modes : ℕ) : Type 0 where
   pub state : StateChecked r cells up down
-  pub letters-long : letters ≡ length cells + 1
-  pub modes-long : modes ≡ length cells
+  pub letters_long : letters ≡ length cells + 1
+  pub modes_long : modes ≡ length cells
 
 -- demand 1 of a refusal, of the reading's checks
 abbrev pub ReadJudged : Road → List ℕ → ℕ → ℕ → ℕ → ℕ → Refusal → Type 0
 ReadJudged r cells up down letters modes f =
-    Judged (readChecks r cells up down letters modes) (ReadChecked r cells up down letters modes) (Placed r cells (up ∷ []) (down ∷ [])) f
+    Judged (read_checks r cells up down letters modes) (ReadChecked r cells up down letters modes) (Placed r cells (up ∷ []) (down ∷ [])) f
 
 -- what the reading answers: the counts beside Done, or the refusal beside all counts 0
-unfoldable pub readAnswer : Road → List ℕ → ℕ → ℕ → ℕ → ℕ → StateReading
-readAnswer r cells up down letters modes =
-    unlessRefused (readRefusal r cells up down letters modes)
+unfoldable pub read_answer : Road → List ℕ → ℕ → ℕ → ℕ → ℕ → StateReading
+read_answer r cells up down letters modes =
+    unless_refused (read_refusal r cells up down letters modes)
     (record {
       answer = Done;
-      counts = countsFor r cells (modesOf (word_of r up down cells));
+      counts = counts_for r cells (modes_of (word_of r up down cells));
     })
-    (record { answer = Refused (readRefusal r cells up down letters modes); counts = noCounts })
+    (record { answer = Refused (read_refusal r cells up down letters modes); counts = no_counts })
 
 -- the letters and the modes written, or the former contents
-unfoldable pub readLetters : Road → List ℕ → ℕ → ℕ → List ℕ → List ℕ → List ℕ
-readLetters r cells up down letters modes =
-    unlessRefused (readRefusal r cells up down (length letters) (length modes)) (word_of r up down cells) letters
+unfoldable pub read_letters : Road → List ℕ → ℕ → ℕ → List ℕ → List ℕ → List ℕ
+read_letters r cells up down letters modes =
+    unless_refused (read_refusal r cells up down (length letters) (length modes)) (word_of r up down cells) letters
 
-unfoldable pub readModes : Road → List ℕ → ℕ → ℕ → List ℕ → List ℕ → List ℕ
-readModes r cells up down letters modes =
-    unlessRefused (readRefusal r cells up down (length letters) (length modes)) (modesOf (word_of r up down cells)) modes
+unfoldable pub read_modes : Road → List ℕ → ℕ → ℕ → List ℕ → List ℕ → List ℕ
+read_modes r cells up down letters modes =
+    unless_refused (read_refusal r cells up down (length letters) (length modes)) (modes_of (word_of r up down cells)) modes
 
 -- the paper's numbers of an answer: number (0 when accepted) and place
-abbrev pub readNumber : ReadAnswer → ℕ
-readNumber Done = 0
-readNumber (Refused f) = f.number
+abbrev pub read_number : ReadAnswer → ℕ
+read_number Done = 0
+read_number (Refused f) = f.number
 
 abbrev pub read_place : ReadAnswer → ℕ
 read_place Done = 0
@@ -89,8 +89,8 @@ read_place (Refused f) = f.place
 pub record OwnWord (r : Road) (cells : List ℕ) (up down : ℕ) (word : List ℕ) : Type 0 where
   pub long : length word ≡ length cells + 1
   pub allowed : legal word ≡ true
-  pub fits : allHold r cells up down word ≡ true
-  pub only : (other : List ℕ) → allHold r cells up down other ≡ true → other ≡ word
+  pub fits : all_letters_hold r cells up down word ≡ true
+  pub only : (other : List ℕ) → all_letters_hold r cells up down other ≡ true → other ≡ word
 
 -- how the queued number agrees with the modes: a cell in mode 1, 2 or 6 exceeds C, one in mode 3, 4 or 7 does not, and one in mode 5 may
 pub record SignsAgree (modes : List ℕ) (queued : ℕ) : Type 0 where
@@ -106,22 +106,22 @@ pub record ReadState (r : Road) (cells : List ℕ) (up down : ℕ) (letters mode
   pub own : OwnWord r cells up down letters
   -- the fit test of the same state says the same: it answers that all faces hold, of these letters and of no others
   pub fit : (a : FitAnswer) → Fits r cells up down letters a → AnswersFit a
-  pub fit-only : (other : List ℕ) (a : FitAnswer) → Fits r cells up down other a → AnswersFit a → other ≡ letters
-  pub moded : modes ≡ modesOf letters
-  pub modes-long : length modes ≡ length cells
+  pub fit_only : (other : List ℕ) (a : FitAnswer) → Fits r cells up down other a → AnswersFit a → other ≡ letters
+  pub moded : modes ≡ modes_of letters
+  pub modes_long : length modes ≡ length cells
   pub numbered : Numbered modes
-  pub counted : c ≡ countsFor r cells modes
-  pub counts-sum : sum c.modes ≡ length cells
-  pub queued : c.queued ≡ queuedOf r.critical cells
+  pub counted : c ≡ counts_for r cells modes
+  pub counts_sum : sum c.modes ≡ length cells
+  pub queued : c.queued ≡ queued_of r.critical cells
   pub signs : SignsAgree modes c.queued
 
 -- what the call promises
-pub record Reads (r : Road) (cells : List ℕ) (up down : ℕ) (letters next-letters modes next-modes : List ℕ) (a : StateReading) : Type 0 where
-  pub answer : a ≡ readAnswer r cells up down (length letters) (length modes)
-  pub number : readNumber a.answer ≡ (readRefusal r cells up down (length letters) (length modes)).number
-  pub place : read_place a.answer ≡ (readRefusal r cells up down (length letters) (length modes)).place
-  pub letters-written : next-letters ≡ readLetters r cells up down letters modes
-  pub modes-written : next-modes ≡ readModes r cells up down letters modes
-  pub judged : ReadJudged r cells up down (length letters) (length modes) (refused (readNumber a.answer) (read_place a.answer))
+pub record Reads (r : Road) (cells : List ℕ) (up down : ℕ) (letters next-letters modes next_modes : List ℕ) (a : StateReading) : Type 0 where
+  pub answer : a ≡ read_answer r cells up down (length letters) (length modes)
+  pub number : read_number a.answer ≡ (read_refusal r cells up down (length letters) (length modes)).number
+  pub place : read_place a.answer ≡ (read_refusal r cells up down (length letters) (length modes)).place
+  pub letters_written : next-letters ≡ read_letters r cells up down letters modes
+  pub modes_written : next_modes ≡ read_modes r cells up down letters modes
+  pub judged : ReadJudged r cells up down (length letters) (length modes) (refused (read_number a.answer) (read_place a.answer))
   -- demand 2, of an accepted call: of the letters, modes and counts handed back
-  pub state : a.answer ≡ Done → ReadState r cells up down next-letters next-modes a.counts
+  pub state : a.answer ≡ Done → ReadState r cells up down next-letters next_modes a.counts

@@ -1,8 +1,8 @@
 // The fit test: whether a state and end pair fit a word.
 ghost use Rattle.std.specs.Prelude.{◌≡◌};
 ghost use Rattle.scheme.specs.Word.{word_of};
-ghost use Rattle.modes.specs.Judging.{fitRefusal};
-ghost use Rattle.modes.specs.Fit.{firstMisfit, FitChecked, Compared, Fits};
+ghost use Rattle.modes.specs.Judging.{fit_refusal};
+ghost use Rattle.modes.specs.Fit.{first_misfit, FitChecked, Compared, Fits};
 
 use refusal::Refusal;
 use road::Road;
@@ -23,7 +23,7 @@ pub enum FitAnswer {
 
 // Internal: the fit test's refusal, or none. It has no output, so that none is bad.
 fn judged(road: Road, cells: &[u32], up: u32, down: u32, word: &[u8]) -> Refusal
-    ensures { result ≡ fitRefusal road cells.now up down word.now }
+    ensures { result ≡ fit_refusal road cells.now up down word.now }
 {
     words::judged_with_word(road, cells, up, down, word, false)
 }
@@ -31,7 +31,7 @@ fn judged(road: Road, cells: &[u32], up: u32, down: u32, word: &[u8]) -> Refusal
 // Internal: the lowest face whose letter is not the word's, or the number of faces where each is.
 fn first_misfit(road: Road, cells: &[u32], up: u32, down: u32, word: &[u8]) -> usize
     requires { FitChecked road cells.now up down word.now }
-    ensures { result ≡ firstMisfit (word_of road up down cells.now) word.now }
+    ensures { result ≡ first_misfit (word_of road up down cells.now) word.now }
 {
     let mut left = up;
     let mut i = 0;

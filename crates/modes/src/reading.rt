@@ -1,6 +1,6 @@
 // The reading of a state: the letter of every face, the mode of every cell, seven counts and the queued cells.
 ghost use Rattle.std.specs.Prelude.{◌≡◌};
-ghost use Rattle.modes.specs.Judging.{readRefusal};
+ghost use Rattle.modes.specs.Judging.{read_refusal};
 ghost use Rattle.modes.specs.Reading.{Reads};
 
 use super::tallying::{queued, tally};
@@ -31,7 +31,7 @@ pub struct StateReading {
 
 // Internal: the reading's refusal, or none.
 fn judged(road: Road, cells: &[u32], up: u32, down: u32, letters: usize, modes: usize) -> Refusal
-    ensures { result ≡ readRefusal road cells.now up down letters modes }
+    ensures { result ≡ read_refusal road cells.now up down letters modes }
 {
     let bad_letters = checks::bad_output(cells.len() + 1, letters);
     let bad_modes = checks::bad_output(cells.len(), modes);

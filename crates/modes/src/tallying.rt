@@ -1,12 +1,12 @@
 // The counts of a reading: how many cells are in each mode, and how many are queued. A count is kept in 16 bits, which hold
 // the cells' ceiling, while it grows: vector instructions then work twice as many at a time as in 32.
 ghost use Rattle.std.specs.Prelude.{◌≡◌, ◌≤◌, length};
-ghost use Rattle.road.specs.Ceilings.{cellsCeiling};
-ghost use Rattle.modes.specs.Reading.{count_of, countsOf, queuedOf};
+ghost use Rattle.road.specs.Ceilings.{cells_ceiling};
+ghost use Rattle.modes.specs.Reading.{count_of, counts_of, queued_of};
 
 // Internal: how many of the modes are a given one.
 fn count_of(mode: u8, modes: &[u8]) -> u32
-    requires { length modes.now ≤ cellsCeiling }
+    requires { length modes.now ≤ cells_ceiling }
     ensures { result ≡ count_of mode modes.now }
 {
     let mut count: u16 = 0;
@@ -20,8 +20,8 @@ fn count_of(mode: u8, modes: &[u8]) -> u32
 
 // Internal: how many of the modes are 1, 2 and so on to 7: a pass for each, which takes the same time for every state.
 pub fn tally(modes: &[u8]) -> [u32; 7]
-    requires { length modes.now ≤ cellsCeiling }
-    ensures { result ≡ countsOf modes.now }
+    requires { length modes.now ≤ cells_ceiling }
+    ensures { result ≡ counts_of modes.now }
 {
     [
         count_of(1, modes),
@@ -36,8 +36,8 @@ pub fn tally(modes: &[u8]) -> [u32; 7]
 
 // Internal: how many of the cells are denser than critical.
 pub fn queued(critical: u32, cells: &[u32]) -> u32
-    requires { length cells.now ≤ cellsCeiling }
-    ensures { result ≡ queuedOf critical cells.now }
+    requires { length cells.now ≤ cells_ceiling }
+    ensures { result ≡ queued_of critical cells.now }
 {
     let mut queued: u16 = 0;
     let mut cell = 0;

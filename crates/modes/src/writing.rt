@@ -3,7 +3,7 @@ ghost use Rattle.std.specs.Prelude.{◌≡◌, ◌+◌, ◌≤◌, length};
 ghost use Rattle.road.specs.Judgement.{Accepted};
 ghost use Rattle.scheme.specs.Sums.{Below};
 ghost use Rattle.scheme.specs.Word.{word_of};
-ghost use Rattle.modes.specs.Modes.{modesOf};
+ghost use Rattle.modes.specs.Modes.{modes_of};
 
 use super::mode::mode_of;
 use road::Road;
@@ -32,7 +32,7 @@ pub fn write_letters(road: Road, cells: &[u32], up: u32, down: u32, letters: &mu
 // Internal: the list then holds the mode of every cell.
 pub fn write_modes(word: &[u8], modes: &mut [u8])
     requires { length word.now ≡ length modes.old + 1 }
-    ensures { modes.new ≡ modesOf word.now }
+    ensures { modes.new ≡ modes_of word.now }
 {
     let mut i = 0;
     while i < modes.len() {

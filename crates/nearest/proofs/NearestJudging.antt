@@ -6,23 +6,23 @@ use Rattle.choice.specs.Choice.{or}
 use Rattle.choice.proofs.Choice.{or_left, or_right, neither}
 use Rattle.refusal.proofs.Calls.{Call}
 use Rattle.road.specs.declared.Road.{Road}
-use Rattle.checks.specs.Lists.{badOutput}
+use Rattle.checks.specs.Lists.{bad_output}
 use Rattle.checks.specs.Places.{Placed}
-use Rattle.checks.specs.State.{stateRefusal}
-use Rattle.checks.proofs.Checks.{output-long, output-passes}
-use Rattle.checks.proofs.State.{state-call}
-use Rattle.nearest.specs.Nearest.{nearestChecks, nearestRefusal, NearestChecked}
+use Rattle.checks.specs.State.{state_refusal}
+use Rattle.checks.proofs.Checks.{output_long, output_passes}
+use Rattle.checks.proofs.State.{state_call}
+use Rattle.nearest.specs.Nearest.{nearest_checks, nearest_refusal, NearestChecked}
 
-pub nearest-call : (r : Road) (cells : List ℕ) (up down numbers changes : ℕ)
-    → Call (nearestChecks r cells up down numbers changes) (NearestChecked r cells up down numbers changes) (Placed r cells (up ∷ []) (down ∷ [])) (nearestRefusal r cells up down numbers changes)
-unfolding nearestRefusal stateRefusal
-nearest-call r cells up down numbers changes =
+pub nearest_call : (r : Road) (cells : List ℕ) (up down numbers changes : ℕ)
+    → Call (nearest_checks r cells up down numbers changes) (NearestChecked r cells up down numbers changes) (Placed r cells (up ∷ []) (down ∷ [])) (nearest_refusal r cells up down numbers changes)
+unfolding nearest_refusal state_refusal
+nearest_call r cells up down numbers changes =
     let n = length cells in
-    state-call r cells up down (or (badOutput n numbers) (badOutput n changes))
+    state_call r cells up down (or (bad_output n numbers) (bad_output n changes))
     (λ s e. record {
       state = s;
-      numbers-long = output-long n numbers (or_left (badOutput n numbers) (badOutput n changes) e);
-      changes-long = output-long n changes (or_right (badOutput n numbers) (badOutput n changes) e);
+      numbers_long = output_long n numbers (or_left (bad_output n numbers) (bad_output n changes) e);
+      changes_long = output_long n changes (or_right (bad_output n numbers) (bad_output n changes) e);
     })
     (λ c. c.state)
-    (λ c. neither (badOutput n numbers) (badOutput n changes) (output-passes n numbers c.numbers-long) (output-passes n changes c.changes-long))
+    (λ c. neither (bad_output n numbers) (bad_output n changes) (output_passes n numbers c.numbers_long) (output_passes n changes c.changes_long))

@@ -11,39 +11,39 @@ use mir.Syntax.{w32, w64}
 use mir.Val.{Fits, SFits, to_z, of_z}
 use mir.Facts.{to_z-of_z, to_z_pos}
 use borrow.Author.Tests.{ltb-true}
-use Rattle.road.specs.Ceilings.{jamCeiling}
-use Rattle.floats.proofs.Signs.{natAbs-neg}
+use Rattle.road.specs.Ceilings.{jam_ceiling}
+use Rattle.floats.proofs.Signs.{nat_abs_neg}
 
-mag-size : (z : ℤ) → mag z ≤ nat_abs z
-mag-size (pos n) = omega arith
-mag-size (negsuc n) = omega arith
+mag_size : (z : ℤ) → mag z ≤ nat_abs z
+mag_size (pos n) = omega arith
+mag_size (negsuc n) = omega arith
 
 -- a number that the code worked out, by what it is shown to be: a change of no more than the highest jam density is read back as it was written
-small-fits : {z w : ℤ} → z ≡ w → nat_abs w ≤ jamCeiling → SFits w32 z
-small-fits {z} {w} e h = subst (SFits w32) (sym e) (record { sfits = lt_of_le_of_lt (le_trans (mag-size w) h) (lit< tt) })
+small_fits : {z w : ℤ} → z ≡ w → nat_abs w ≤ jam_ceiling → SFits w32 z
+small_fits {z} {w} e h = subst (SFits w32) (sym e) (record { sfits = lt_of_le_of_lt (le_trans (mag_size w) h) (lit< tt) })
 
-pub exact-in-i32 : {z w : ℤ} → z ≡ w → nat_abs w ≤ jamCeiling → to_z w32 (of_z w32 z) ≡ w
-exact-in-i32 e h = to_z-of_z (small-fits e h) ∙ e
+pub exact_in_i32 : {z w : ℤ} → z ≡ w → nat_abs w ≤ jam_ceiling → to_z w32 (of_z w32 z) ≡ w
+exact_in_i32 e h = to_z-of_z (small_fits e h) ∙ e
 
-module _ (n : ℕ) (small : n ≤ jamCeiling) where
-  pub up-exact : to_z w32 n ≡ pos n
-  up-exact = to_z_pos w32 (lt_of_le_of_lt small (lit< tt))
+module _ (n : ℕ) (small : n ≤ jam_ceiling) where
+  pub up_exact : to_z w32 n ≡ pos n
+  up_exact = to_z_pos w32 (lt_of_le_of_lt small (lit< tt))
 
-  pub down-small : nat_abs (neg_ℤ (pos n)) ≤ jamCeiling
-  down-small = subst (λ (m : ℕ). m ≤ jamCeiling) (sym (natAbs-neg (pos n))) small
+  pub down_small : nat_abs (neg_ℤ (pos n)) ≤ jam_ceiling
+  down_small = subst (λ (m : ℕ). m ≤ jam_ceiling) (sym (nat_abs_neg (pos n))) small
 
   lowered_is : pos 0 -ℤ to_z w32 n ≡ neg_ℤ (pos n)
-  lowered_is = ap (λ z. pos 0 -ℤ z) up-exact ∙ +ℤ_idl (neg_ℤ (pos n))
+  lowered_is = ap (λ z. pos 0 -ℤ z) up_exact ∙ +ℤ_idl (neg_ℤ (pos n))
 
-  pub lowered-fits : SFits w32 (pos 0 -ℤ to_z w32 n)
-  lowered-fits = small-fits lowered_is down-small
+  pub lowered_fits : SFits w32 (pos 0 -ℤ to_z w32 n)
+  lowered_fits = small_fits lowered_is down_small
 
-  pub lowered-exact : to_z w32 (of_z w32 (pos 0 -ℤ to_z w32 n)) ≡ neg_ℤ (pos n)
-  lowered-exact = exact-in-i32 lowered_is down-small
+  pub lowered_exact : to_z w32 (of_z w32 (pos 0 -ℤ to_z w32 n)) ≡ neg_ℤ (pos n)
+  lowered_exact = exact_in_i32 lowered_is down_small
 
 -- the size of a change that was read back
-pub read-size : (z : ℤ) {n : ℕ} → mag z < 2 ^ 31 → n ≡ nat_abs (to_z w32 (of_z w32 z)) → n ≡ nat_abs z
-read-size z fits e = e ∙ ap nat_abs (to_z-of_z {w = w32} {z = z} (record { sfits = fits }))
+pub read_size : (z : ℤ) {n : ℕ} → mag z < 2 ^ 31 → n ≡ nat_abs (to_z w32 (of_z w32 z)) → n ≡ nat_abs z
+read_size z fits e = e ∙ ap nat_abs (to_z-of_z {w = w32} {z = z} (record { sfits = fits }))
 
 -- any change, in 64 bits
 module _ (z : ℤ) (fits : SFits w32 z) where
@@ -56,28 +56,28 @@ module _ (z : ℤ) (fits : SFits w32 z) where
   abbrev opposite : ℤ
   opposite = pos 0 -ℤ to_z w64 (of_z w64 (to_z w32 (of_z w32 z)))
 
-  opposite-is : opposite ≡ neg_ℤ z
-  opposite-is = ap (λ w. pos 0 -ℤ w) wide_is ∙ +ℤ_idl (neg_ℤ z)
+  opposite_is : opposite ≡ neg_ℤ z
+  opposite_is = ap (λ w. pos 0 -ℤ w) wide_is ∙ +ℤ_idl (neg_ℤ z)
 
-  size-high : nat_abs z ≤ 2 ^ 31
-  size-high = nat_abs-le z fits.sfits
+  size_high : nat_abs z ≤ 2 ^ 31
+  size_high = nat_abs-le z fits.sfits
 
-  pub opposite-fits : SFits w64 opposite
-  opposite-fits =
-      subst (SFits w64) (sym opposite-is)
-      (record { sfits = lt_of_le_of_lt (le_trans (mag-size (neg_ℤ z)) (subst (λ (m : ℕ). m ≤ 2 ^ 31) (sym (natAbs-neg z)) size-high)) (lit< tt) })
+  pub opposite_fits : SFits w64 opposite
+  opposite_fits =
+      subst (SFits w64) (sym opposite_is)
+      (record { sfits = lt_of_le_of_lt (le_trans (mag_size (neg_ℤ z)) (subst (λ (m : ℕ). m ≤ 2 ^ 31) (sym (nat_abs_neg z)) size_high)) (lit< tt) })
 
-  pub opposite-exact : to_z w64 (of_z w64 opposite) ≡ neg_ℤ z
-  opposite-exact = to_z-of_z opposite-fits ∙ opposite-is
+  pub opposite_exact : to_z w64 (of_z w64 opposite) ≡ neg_ℤ z
+  opposite_exact = to_z-of_z opposite_fits ∙ opposite_is
 
   pub size_fits : Fits w32 (nat_abs z)
-  size_fits = record { fits = lt_of_le_of_lt size-high (lit< tt) }
+  size_fits = record { fits = lt_of_le_of_lt size_high (lit< tt) }
 
 -- which of a number and its opposite is not below 0
-pub below-zero : (z : ℤ) → lt_z z (pos 0) ≡ true → T (non_neg (neg_ℤ z))
-below-zero (pos n) e = absurd (omega (arith, ltb-true n 0 e))
-below-zero (negsuc n) e = tt
+pub below_zero : (z : ℤ) → lt_z z (pos 0) ≡ true → T (non_neg (neg_ℤ z))
+below_zero (pos n) e = absurd (omega (arith, ltb-true n 0 e))
+below_zero (negsuc n) e = tt
 
-pub not-below-zero : (z : ℤ) → lt_z z (pos 0) ≡ false → T (non_neg z)
-not-below-zero (pos n) e = tt
-not-below-zero (negsuc n) e = absurd (false≢true (sym e))
+pub not_below_zero : (z : ℤ) → lt_z z (pos 0) ≡ false → T (non_neg z)
+not_below_zero (pos n) e = tt
+not_below_zero (negsuc n) e = absurd (false≢true (sym e))

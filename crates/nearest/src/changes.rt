@@ -1,8 +1,8 @@
 // The change of one cell: where its own density alters the letters of its two faces, and the shortest way there.
 ghost use Rattle.std.specs.Prelude.{◌≡◌, ◌≤◌, ◌<◌, pos, neg_ℤ};
-ghost use Rattle.road.specs.Ceilings.{jamCeiling};
+ghost use Rattle.road.specs.Ceilings.{jam_ceiling};
 ghost use Rattle.road.specs.Judgement.{Accepted};
-ghost use Rattle.flux.specs.Thresholds.{leftThreshold, rightThreshold};
+ghost use Rattle.flux.specs.Thresholds.{left_threshold, right_threshold};
 ghost use Rattle.nearest.specs.Ways.{crossing};
 
 use road::Road;
@@ -11,7 +11,7 @@ use road::Road;
 // is W.
 pub fn left_threshold(road: Road, a: u32) -> u32
     requires { Accepted road }
-    ensures { result ≡ leftThreshold road a }
+    ensures { result ≡ left_threshold road a }
 {
     let sent = flux::sending(road, a);
     road.jam - (sent + (road.wave - 1)) / road.wave
@@ -22,7 +22,7 @@ pub fn left_threshold(road: Road, a: u32) -> u32
 pub fn right_threshold(road: Road, b: u32) -> u32
     requires accepted { Accepted road }
     requires b_le_jam { b ≤ road.jam }
-    ensures { result ≡ rightThreshold road b }
+    ensures { result ≡ right_threshold road b }
 {
     let received = flux::receiving(road, b);
     received / road.free
@@ -30,7 +30,7 @@ pub fn right_threshold(road: Road, b: u32) -> u32
 
 // Internal: a change downwards by so much.
 fn lowered(by: u32) -> i32
-    requires { by ≤ jamCeiling }
+    requires { by ≤ jam_ceiling }
     ensures { result ≡ neg_ℤ (pos by) }
 {
     -(by as i32)
@@ -39,7 +39,7 @@ fn lowered(by: u32) -> i32
 // Internal: the shortest way from a density across one of two thresholds, of which the right one is no higher, as a
 // signed change: down at a tie.
 pub fn crossing(jam: u32, own: u32, left: u32, right: u32) -> i32
-    requires jam_le_jam_ceiling { jam ≤ jamCeiling }
+    requires jam_le_jam_ceiling { jam ≤ jam_ceiling }
     requires own_le_jam { own ≤ jam }
     requires left_le_jam { left ≤ jam }
     requires right_lt_jam { right < jam }

@@ -4,4 +4,4 @@ use Rattle.std.specs.Prelude.{◌≡◌, ℕ, ◌≤◌}
 -- no control character of ASCII
 pub record Visible (b : ℕ) : Type 0 where
   pub printed : 32 ≤ b
-  pub no-delete : b ≡ 127 → ⊥
+  pub no_delete : b ≡ 127 → ⊥

@@ -7,19 +7,19 @@ use lib.Dec.{T, eqb, ltb, ltb→lt}
 use borrow.Author.Tests.{eq-eqb, ne_eqb}
 use Rattle.refusal.specs.Table.{passed, Check, judge, apart, First, Judged}
 use Rattle.refusal.specs.declared.Refusal.{Refusal}
-use Rattle.refusal.proofs.Table.{Passing, all_pass, conditionOf, place_of, none-holds, nothing-refused, check-returned, first_fits, first-lowest, first-falls}
+use Rattle.refusal.proofs.Table.{Passing, all_pass, condition_of, place_of, none_holds, nothing_refused, check_returned, first_fits, first_lowest, first_falls}
 use Rattle.refusal.proofs.Parts.{same_number}
 
 -- a number returned is that of its check: the condition holds, and the place is the one returned
 abbrev pub Returned : List Check → Refusal → Type 0
-Returned checks f = (n : ℕ) → T (ltb 0 n) → f.number ≡ n → (conditionOf n checks ≡ true) × (place_of n checks ≡ f.place)
+Returned checks f = (n : ℕ) → T (ltb 0 n) → f.number ≡ n → (condition_of n checks ≡ true) × (place_of n checks ≡ f.place)
 
 -- what is shown of each call, whose checks come to f: its numbers differ, its places mean what they should, and no check holds exactly of a checked input
 pub record Call (checks : List Check) (Checked : Type 0) (Placed : Refusal → Type 0) (f : Refusal) : Type 0 where
-  pub comes-to : f ≡ judge checks
+  pub comes_to : f ≡ judge checks
   pub distinct : T (apart checks)
   pub placed : Returned checks f → Placed f
-  pub clear-checked : ((n : ℕ) → conditionOf n checks ≡ false) → Checked
+  pub clear_checked : ((n : ℕ) → condition_of n checks ≡ false) → Checked
   pub passes : Checked → Passing checks
 
 -- what is known of a refusal g that was worked, and of a call that nothing is refused of
@@ -36,27 +36,27 @@ pub record Accepts (checks : List Check) (Checked : Type 0) (Placed : Refusal �
 module _ {checks : List Check} {Checked : Type 0} {Placed : Refusal → Type 0} {f : Refusal} (call : Call checks Checked Placed f) where
   -- an input that nothing is refused of is checked, and the other way round
   pub checked : f.number ≡ 0 → Checked
-  checked e = call.clear-checked (none-holds checks call.distinct (same_number call.comes-to e))
+  checked e = call.clear_checked (none_holds checks call.distinct (same_number call.comes_to e))
 
   clear : Checked → f ≡ passed
-  clear c = call.comes-to ∙ all_pass checks (call.passes c)
+  clear c = call.comes_to ∙ all_pass checks (call.passes c)
 
-  pub accepts-checked : Checked → eqb f.number 0 ≡ true
-  accepts-checked c = eq-eqb f.number 0 (ap (λ (g : Refusal). g.number) (clear c))
+  pub accepts_checked : Checked → eqb f.number 0 ≡ true
+  accepts_checked c = eq-eqb f.number 0 (ap (λ (g : Refusal). g.number) (clear c))
 
   -- demand 1
   pub judged : Judged checks Checked Placed f
   judged = record {
     first = first;
-    lowest = λ rises. first-lowest checks rises first;
-    lower-after = first-falls checks first;
-    placed = call.placed (subst (Returned checks) (sym call.comes-to) (λ n t. check-returned checks call.distinct n (ltb→lt 0 n t)));
+    lowest = λ rises. first_lowest checks rises first;
+    lower_after = first_falls checks first;
+    placed = call.placed (subst (Returned checks) (sym call.comes_to) (λ n t. check_returned checks call.distinct n (ltb→lt 0 n t)));
     accepted = checked;
     no_other = λ c. ap (λ (g : Refusal). g.number) (clear c);
   }
     where
       first : First checks f
-      first = subst (First checks) (sym call.comes-to) (first_fits checks call.distinct)
+      first = subst (First checks) (sym call.comes_to) (first_fits checks call.distinct)
 
   pub refuses : {g : Refusal} → g ≡ f → (g.number ≡ 0 → ⊥) → Refuses checks Checked Placed f g
   refuses e n = record {
@@ -66,7 +66,7 @@ module _ {checks : List Check} {Checked : Type 0} {Placed : Refusal → Type 0} 
 
   pub accepts : f.number ≡ 0 → Accepts checks Checked Placed f
   accepts e =
-      let nothing : f ≡ passed = call.comes-to ∙ nothing-refused checks call.distinct (same_number call.comes-to e) in
+      let nothing : f ≡ passed = call.comes_to ∙ nothing_refused checks call.distinct (same_number call.comes_to e) in
       record {
         yes = eq-eqb f.number 0 e;
         nothing = nothing;

@@ -1,7 +1,7 @@
 // The refusal, and the rule of its table: the checks stand in the call's order of checks, and the first that holds is
 // returned (document 01, "Where each refusal is made"; document 02, E7).
 ghost use Rattle.std.specs.Prelude.{◌≡◌};
-ghost use Rattle.refusal.specs.Table.{passed, orIf};
+ghost use Rattle.refusal.specs.Table.{passed, or_if};
 
 // A refusal's number and place; number 0 says that nothing is refused.
 #[derive(Drop)]
@@ -24,7 +24,7 @@ impl Refusal {
     // Internal: the next check of a table. A refusal by a check above stands; otherwise this check refuses where its
     // condition holds.
     pub fn or_if(self, condition: bool, number: u32, place: u32) -> Refusal
-        ensures { result ≡ orIf self condition number place }
+        ensures { result ≡ or_if self condition number place }
     {
         if self.number != 0 {
             return self;

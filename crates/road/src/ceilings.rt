@@ -1,6 +1,6 @@
 // The ceilings: associated constants of the road's type, so that a buyer's program reads them and repeats none.
 ghost use Rattle.std.specs.Prelude.{◌≡◌};
-ghost use Rattle.road.specs.Ceilings.{cellsCeiling, horizonCeiling, divisorCeiling, jamCeiling, countCeiling};
+ghost use Rattle.road.specs.Ceilings.{cells_ceiling, horizon_ceiling, divisor_ceiling, jam_ceiling, count_ceiling};
 
 use super::Road;
 
@@ -19,35 +19,35 @@ impl Road {
 // Internal: the largest number of cells. Each constant has such a function, with the equation to its definition, so that a
 // moved constant is refused here.
 pub fn cells_ceiling() -> u32
-    ensures { result ≡ cellsCeiling }
+    ensures { result ≡ cells_ceiling }
 {
     Road::CELLS
 }
 
 // Internal: the largest horizon.
 pub fn horizon_ceiling() -> u32
-    ensures { result ≡ horizonCeiling }
+    ensures { result ≡ horizon_ceiling }
 {
     Road::HORIZON
 }
 
 // Internal: the largest divisor.
 pub fn divisor_ceiling() -> u32
-    ensures { result ≡ divisorCeiling }
+    ensures { result ≡ divisor_ceiling }
 {
     Road::DIVISOR
 }
 
 // Internal: the largest jam density.
 pub fn jam_ceiling() -> u32
-    ensures { result ≡ jamCeiling }
+    ensures { result ≡ jam_ceiling }
 {
     Road::JAM
 }
 
 // Internal: the largest number of cells of a word count.
 pub fn count_ceiling() -> u32
-    ensures { result ≡ countCeiling }
+    ensures { result ≡ count_ceiling }
 {
     Road::COUNT
 }

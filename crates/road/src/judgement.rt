@@ -1,6 +1,6 @@
 // The judgement of a road: numbers 1 to 4 of the refusal table, lowest first, for any five 32-bit numbers.
 ghost use Rattle.std.specs.Prelude.{◌≡◌, ◌-◌};
-ghost use Rattle.road.specs.Judgement.{outside, badDivisor, badSpeeds, badDensities, unbalanced, roadRefusal};
+ghost use Rattle.road.specs.Judgement.{outside, bad_divisor, bad_speeds, bad_densities, unbalanced, road_refusal};
 
 use super::Road;
 use refusal::Refusal;
@@ -20,13 +20,13 @@ pub fn less(a: u32, b: u32) -> u32
 }
 
 fn bad_divisor(r: Road) -> bool
-    ensures { result ≡ badDivisor r }
+    ensures { result ≡ bad_divisor r }
 {
     is_outside(1, Road::DIVISOR, r.divisor)
 }
 
 fn bad_speeds(r: Road) -> bool
-    ensures { result ≡ badSpeeds r }
+    ensures { result ≡ bad_speeds r }
 {
     choice::either(
         is_outside(1, r.divisor, r.free),
@@ -35,7 +35,7 @@ fn bad_speeds(r: Road) -> bool
 }
 
 fn bad_densities(r: Road) -> bool
-    ensures { result ≡ badDensities r }
+    ensures { result ≡ bad_densities r }
 {
     choice::either(
         is_outside(2, Road::JAM, r.jam),
@@ -54,7 +54,7 @@ fn is_unbalanced(r: Road) -> bool
 
 // Internal: the road's refusal, or none.
 pub fn judged(r: Road) -> Refusal
-    ensures { result ≡ roadRefusal r }
+    ensures { result ≡ road_refusal r }
 {
     let divisor = bad_divisor(r);
     let speeds = bad_speeds(r);

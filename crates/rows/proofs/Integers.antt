@@ -5,11 +5,11 @@ use lib.IntN.{ℤ, pos, negsuc, suc_ℤ, pred_ℤ, ◌+ℤ◌, ◌*ℤ◌, neg_�
 use lib.IntN.{+ℤ_idl, +ℤ_assoc, +ℤ_comm}
 
 -- every integer is reached from 0 by steps of one
-pub by-steps : (P : ℤ → Type 0) → P (pos 0) → ((m : ℤ) → P m → P (suc_ℤ m)) → ((m : ℤ) → P m → P (pred_ℤ m)) → (k : ℤ) → P k
-by-steps P z up down (pos zero) = z
-by-steps P z up down (pos (suc n)) = up (pos n) (by-steps P z up down (pos n))
-by-steps P z up down (negsuc zero) = down (pos 0) z
-by-steps P z up down (negsuc (suc n)) = down (negsuc n) (by-steps P z up down (negsuc n))
+pub by_steps : (P : ℤ → Type 0) → P (pos 0) → ((m : ℤ) → P m → P (suc_ℤ m)) → ((m : ℤ) → P m → P (pred_ℤ m)) → (k : ℤ) → P k
+by_steps P z up down (pos zero) = z
+by_steps P z up down (pos (suc n)) = up (pos n) (by_steps P z up down (pos n))
+by_steps P z up down (negsuc zero) = down (pos 0) z
+by_steps P z up down (negsuc (suc n)) = down (negsuc n) (by_steps P z up down (negsuc n))
 
 -- sums regrouped
 +ℤ-swap : (a b c : ℤ) → a +ℤ b +ℤ c ≡ a +ℤ c +ℤ b
@@ -21,7 +21,7 @@ pub +ℤ-cross : (a b c d : ℤ) → (a +ℤ b) +ℤ (c +ℤ d) ≡ (a +ℤ c) +
 -- a sum times a number
 pub +ℤ-times : (a b k : ℤ) → (a +ℤ b) *ℤ k ≡ a *ℤ k +ℤ b *ℤ k
 +ℤ-times a b k =
-    by-steps (λ x. (x +ℤ b) *ℤ k ≡ x *ℤ k +ℤ b *ℤ k)
+    by_steps (λ x. (x +ℤ b) *ℤ k ≡ x *ℤ k +ℤ b *ℤ k)
     (simp (+ℤ_idl, zero-*ℤ))
     (λ m e. simp (suc_ℤ-+ℤ, suc_ℤ-*ℤ, e) (+ℤ-swap (m *ℤ k) (b *ℤ k) k))
     (λ m e. simp (pred_ℤ-+ℤ, pred_ℤ-*ℤ, e) (+ℤ-swap (m *ℤ k) (b *ℤ k) (neg_ℤ k)))

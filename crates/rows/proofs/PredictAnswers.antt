@@ -9,42 +9,42 @@ use Rattle.road.specs.declared.Road.{Road}
 use Rattle.refusal.specs.declared.Refusal.{Refusal}
 use Rattle.refusal.proofs.Table.{◌&◌}
 use Rattle.refusal.proofs.Calls.{Call, refuses, accepts}
-use Rattle.checks.specs.Checks.{outputCheck}
-use Rattle.checks.proofs.Checks.{output-long, output-passes}
-use Rattle.checks.proofs.State.{state-checked}
-use Rattle.rows.specs.Rows.{rowNumerators}
-use Rattle.rows.specs.Judging.{predictChecks, predictRefusal}
+use Rattle.checks.specs.Checks.{output_check}
+use Rattle.checks.proofs.Checks.{output_long, output_passes}
+use Rattle.checks.proofs.State.{state_checked}
+use Rattle.rows.specs.Rows.{row_numerators}
+use Rattle.rows.specs.Judging.{predict_checks, predict_refusal}
 use Rattle.words.specs.Places.{PairWordPlaced}
-use Rattle.rows.specs.Prediction.{predictAnswer, predicted, PredictChecked, Predicts}
+use Rattle.rows.specs.Prediction.{predict_answer, predicted, PredictChecked, Predicts}
 use Rattle.rows.specs.declared.prediction.PredictAnswer.TheVariants.{Done, Refused}
-use Rattle.words.proofs.WordCheck.{word-long, word-legal, state-word-passes, pair-word-placed}
-use Rattle.rows.proofs.PredictState.{predict-state}
+use Rattle.words.proofs.WordCheck.{word_long, word_legal, state_word_passes, pair_word_placed}
+use Rattle.rows.proofs.PredictState.{predict_state}
 
 module _ (r : Road) (cells : List ℕ) (up down : ℕ) (word : List ℕ) where
   module _ (out : ℕ) where
     -- the row prediction's table refuses nothing exactly of a checked input
-    pub predict-call : Call (predictChecks r cells up down word out) (PredictChecked r cells up down word out) (PairWordPlaced r cells up down word) (predictRefusal r cells up down word out)
-    unfolding predictRefusal
-    predict-call = record {
-      comes-to = refl;
+    pub predict_call : Call (predict_checks r cells up down word out) (PredictChecked r cells up down word out) (PairWordPlaced r cells up down word) (predict_refusal r cells up down word out)
+    unfolding predict_refusal
+    predict_call = record {
+      comes_to = refl;
       distinct = tt;
-      placed = λ at. pair-word-placed r cells up down word _ (at 9 tt) (at 10 tt) (at 11 tt) (at 12 tt);
-      clear-checked = λ no. record {
-        state = state-checked r cells up down (no 1) (no 2) (no 3) (no 4) (no 5) (no 9) (no 10) (no 11);
-        output-long = output-long (length cells) out (no 8);
-        word-long = word-long (length cells) word (no 12);
-        word-legal = word-legal (length cells) word (no 12);
+      placed = λ at. pair_word_placed r cells up down word _ (at 9 tt) (at 10 tt) (at 11 tt) (at 12 tt);
+      clear_checked = λ no. record {
+        state = state_checked r cells up down (no 1) (no 2) (no 3) (no 4) (no 5) (no 9) (no 10) (no 11);
+        output_long = output_long (length cells) out (no 8);
+        word_long = word_long (length cells) word (no 12);
+        word_legal = word_legal (length cells) word (no 12);
       };
-      passes = λ c. state-word-passes r cells up down word c.state c.word-long c.word-legal (outputCheck (length cells) out ∷ []) (output-passes (length cells) out c.output-long & tt);
+      passes = λ c. state_word_passes r cells up down word c.state c.word_long c.word_legal (output_check (length cells) out ∷ []) (output_passes (length cells) out c.output_long & tt);
     }
 
   module _ (out : List ℤ) where
     -- refused: the number and place of the table, and the former contents
-    pub refused : (f : Refusal) → f ≡ predictRefusal r cells up down word (length out) → (f.number ≡ 0 → ⊥)
+    pub refused : (f : Refusal) → f ≡ predict_refusal r cells up down word (length out) → (f.number ≡ 0 → ⊥)
         → Predicts r cells up down word out out (Refused f)
-    unfolding predictAnswer predicted
+    unfolding predict_answer predicted
     refused f e n =
-        let k = refuses (predict-call (length out)) e n in
+        let k = refuses (predict_call (length out)) e n in
         record {
           answer = rw k.no (ap Refused e);
           number = ap (λ (g : Refusal). g.number) e;
@@ -55,16 +55,16 @@ module _ (r : Road) (cells : List ℕ) (up down : ℕ) (word : List ℕ) where
         }
 
     -- accepted: the rows
-    pub done : (predictRefusal r cells up down word (length out)).number ≡ 0 → (next : List ℤ) → next ≡ rowNumerators r up down word cells
+    pub done : (predict_refusal r cells up down word (length out)).number ≡ 0 → (next : List ℤ) → next ≡ row_numerators r up down word cells
         → Predicts r cells up down word out next Done
-    unfolding predictAnswer predicted
+    unfolding predict_answer predicted
     done e next is =
-        let k = accepts (predict-call (length out)) e in
+        let k = accepts (predict_call (length out)) e in
         record {
           answer = rw k.yes refl;
           number = rw k.nothing refl;
           place = rw k.nothing refl;
           output = rw k.yes is;
           judged = k.judged;
-          state = λ q. predict-state r cells up down word (length out) k.checked next is;
+          state = λ q. predict_state r cells up down word (length out) k.checked next is;
         }

@@ -3,12 +3,12 @@ use Rattle.std.specs.Prelude.{List, [], ◌∷◌, ℕ, length}
 use Rattle.refusal.specs.Table.{Check, judge}
 use Rattle.road.specs.declared.Road.{Road}
 use Rattle.refusal.specs.declared.Refusal.{Refusal}
-use Rattle.checks.specs.Checks.{outputCheck}
-use Rattle.words.specs.Judging.{stateWordChecks}
+use Rattle.checks.specs.Checks.{output_check}
+use Rattle.words.specs.Judging.{state_word_checks}
 
 -- "row prediction 1–5 and 8–12"
-abbrev pub predictChecks : Road → List ℕ → ℕ → ℕ → List ℕ → ℕ → List Check
-predictChecks r cells up down word out = stateWordChecks r cells up down word (outputCheck (length cells) out ∷ [])
+abbrev pub predict_checks : Road → List ℕ → ℕ → ℕ → List ℕ → ℕ → List Check
+predict_checks r cells up down word out = state_word_checks r cells up down word (output_check (length cells) out ∷ [])
 
-unfoldable pub predictRefusal : Road → List ℕ → ℕ → ℕ → List ℕ → ℕ → Refusal
-predictRefusal r cells up down word out = judge (predictChecks r cells up down word out)
+unfoldable pub predict_refusal : Road → List ℕ → ℕ → ℕ → List ℕ → ℕ → Refusal
+predict_refusal r cells up down word out = judge (predict_checks r cells up down word out)

@@ -2,14 +2,14 @@
 use Rattle.std.specs.Prelude.{List, [], ◌∷◌, ℕ, ◌-◌, ◌*◌, eqb, ℤ, pos, negsuc, ◌+ℤ◌, ◌*ℤ◌, get_or}
 use Rattle.choice.specs.Choice.{pick}
 use Rattle.road.specs.declared.Road.{Road}
-use Rattle.flux.specs.Face.{letterW, letterL}
+use Rattle.flux.specs.Face.{letter_w, letter_l}
 use Rattle.scheme.specs.Advance.{ahead}
 use Rattle.modes.specs.Modes.{mode_of}
 
 -- the fixed table of signed multipliers, a row a mode:
 -- p × left, p × own, q × own, q × right, q × C, p × C, q × J
-unfoldable pub rowTable : List (List ℤ)
-rowTable =
+unfoldable pub row_table : List (List ℤ)
+row_table =
     (pos 0 ∷ pos 0 ∷ negsuc 0 ∷ pos 1 ∷ pos 0 ∷ pos 0 ∷ pos 0 ∷ [])
     ∷ (pos 0 ∷ pos 0 ∷ negsuc 0 ∷ pos 0 ∷ pos 1 ∷ pos 0 ∷ pos 0 ∷ [])
     ∷ (pos 0 ∷ pos 0 ∷ pos 0 ∷ pos 1 ∷ negsuc 0 ∷ pos 0 ∷ pos 0 ∷ [])
@@ -21,21 +21,21 @@ rowTable =
 
 -- the row of a mode, 1 to 7
 unfoldable pub row_of : ℕ → List ℤ
-row_of mode = get_or rowTable (mode - 1) []
+row_of mode = get_or row_table (mode - 1) []
 
 -- a letter's published flow, source 004 (II.10) times D, over the same columns: over a cell's left face, which lies between left and own,
 -- W is q × J − q × own, L is p × C, D is p × left
-unfoldable pub leftFlow : ℕ → List ℤ
-leftFlow s =
-    pick (eqb s letterW) (pos 0 ∷ pos 0 ∷ negsuc 0 ∷ pos 0 ∷ pos 0 ∷ pos 0 ∷ pos 1 ∷ [])
-    (pick (eqb s letterL) (pos 0 ∷ pos 0 ∷ pos 0 ∷ pos 0 ∷ pos 0 ∷ pos 1 ∷ pos 0 ∷ [])
+unfoldable pub left_flow : ℕ → List ℤ
+left_flow s =
+    pick (eqb s letter_w) (pos 0 ∷ pos 0 ∷ negsuc 0 ∷ pos 0 ∷ pos 0 ∷ pos 0 ∷ pos 1 ∷ [])
+    (pick (eqb s letter_l) (pos 0 ∷ pos 0 ∷ pos 0 ∷ pos 0 ∷ pos 0 ∷ pos 1 ∷ pos 0 ∷ [])
     (pos 1 ∷ pos 0 ∷ pos 0 ∷ pos 0 ∷ pos 0 ∷ pos 0 ∷ pos 0 ∷ []))
 
 -- and over its right face, which lies between own and right: W is q × J − q × right, L is p × C, D is p × own
-unfoldable pub rightFlow : ℕ → List ℤ
-rightFlow t =
-    pick (eqb t letterW) (pos 0 ∷ pos 0 ∷ pos 0 ∷ negsuc 0 ∷ pos 0 ∷ pos 0 ∷ pos 1 ∷ [])
-    (pick (eqb t letterL) (pos 0 ∷ pos 0 ∷ pos 0 ∷ pos 0 ∷ pos 0 ∷ pos 1 ∷ pos 0 ∷ [])
+unfoldable pub right_flow : ℕ → List ℤ
+right_flow t =
+    pick (eqb t letter_w) (pos 0 ∷ pos 0 ∷ pos 0 ∷ negsuc 0 ∷ pos 0 ∷ pos 0 ∷ pos 1 ∷ [])
+    (pick (eqb t letter_l) (pos 0 ∷ pos 0 ∷ pos 0 ∷ pos 0 ∷ pos 0 ∷ pos 1 ∷ pos 0 ∷ [])
     (pos 0 ∷ pos 1 ∷ pos 0 ∷ pos 0 ∷ pos 0 ∷ pos 0 ∷ pos 0 ∷ []))
 
 -- what the columns are multiplied by, for a cell between a left and a right density
@@ -57,13 +57,13 @@ dot (k ∷ ks) [] = pos 0
 dot (k ∷ ks) (t ∷ ts) = k *ℤ t +ℤ dot ks ts
 
 -- a row's value: each row also has D × own. It is the density after one step, times D
-unfoldable pub rowValue : Road → ℕ → ℕ → ℕ → ℕ → ℤ
-rowValue r mode left own right = pos (r.divisor * own) +ℤ dot (row_of mode) (terms r left own right)
+unfoldable pub row_value : Road → ℕ → ℕ → ℕ → ℕ → ℤ
+row_value r mode left own right = pos (r.divisor * own) +ℤ dot (row_of mode) (terms r left own right)
 
 -- the rows of a word applied to a state: one numerator a cell
-unfoldable pub rowNumerators : Road → ℕ → ℕ → List ℕ → List ℕ → List ℤ
-rowNumerators r left down word [] = []
-rowNumerators r left down [] (x ∷ xs) = []
-rowNumerators r left down (s ∷ []) (x ∷ xs) = []
-rowNumerators r left down (s ∷ t ∷ ss) (x ∷ xs) =
-    rowValue r (mode_of s t) left x (ahead down xs) ∷ rowNumerators r x down (t ∷ ss) xs
+unfoldable pub row_numerators : Road → ℕ → ℕ → List ℕ → List ℕ → List ℤ
+row_numerators r left down word [] = []
+row_numerators r left down [] (x ∷ xs) = []
+row_numerators r left down (s ∷ []) (x ∷ xs) = []
+row_numerators r left down (s ∷ t ∷ ss) (x ∷ xs) =
+    row_value r (mode_of s t) left x (ahead down xs) ∷ row_numerators r x down (t ∷ ss) xs

@@ -1,9 +1,9 @@
 // The rows of the seven modes: the fixed table of signed multipliers, and a row's value in whole numbers.
 ghost use Rattle.std.specs.Prelude.{◌≡◌, ◌*◌, ◌≤◌, ◌<◌, pos, nat_abs, ◌*ℤ◌, get_or};
-ghost use Rattle.road.specs.Ceilings.{divisorCeiling, jamCeiling};
+ghost use Rattle.road.specs.Ceilings.{divisor_ceiling, jam_ceiling};
 ghost use Rattle.road.specs.Judgement.{Accepted};
 ghost use Rattle.rows.specs.Rows.{row_of};
-ghost use Rattle.rows.specs.Coefficients.{entry, ownCoefficient, constant_of, wholeRow, wholeRows, appliedTo, Sized};
+ghost use Rattle.rows.specs.Coefficients.{entry, own_coefficient, constant_of, whole_row_of, whole_rows, applied_to, Sized};
 
 use road::Road;
 
@@ -43,7 +43,7 @@ fn weighted(mode: u8, column: usize, term: i64) -> i64
     requires le_mode { 1 ≤ mode }
     requires mode_bound { mode ≤ 7 }
     requires column_bound { column < 7 }
-    requires term_bound { nat_abs term ≤ divisorCeiling * jamCeiling }
+    requires term_bound { nat_abs term ≤ divisor_ceiling * jam_ceiling }
     ensures { result ≡ get_or (row_of mode) column (pos 0) *ℤ term }
 {
     multiplier(mode, column) * term
@@ -51,8 +51,8 @@ fn weighted(mode: u8, column: usize, term: i64) -> i64
 
 // Internal: a speed, or the divisor, times a density.
 fn product(speed: u32, density: u32) -> i64
-    requires speed_le_divisor_ceiling { speed ≤ divisorCeiling }
-    requires density_le_jam_ceiling { density ≤ jamCeiling }
+    requires speed_le_divisor_ceiling { speed ≤ divisor_ceiling }
+    requires density_le_jam_ceiling { density ≤ jam_ceiling }
     ensures { result ≡ pos (speed * density) }
 {
     let whole = (speed as u64) * (density as u64);
@@ -64,7 +64,7 @@ fn weighted_speed(mode: u8, column: usize, speed: u32) -> i64
     requires le_mode { 1 ≤ mode }
     requires mode_bound { mode ≤ 7 }
     requires column_bound { column < 7 }
-    requires speed_le_divisor_ceiling { speed ≤ divisorCeiling }
+    requires speed_le_divisor_ceiling { speed ≤ divisor_ceiling }
     ensures { result ≡ entry mode column *ℤ pos speed }
 {
     weighted(mode, column, speed as i64)
@@ -75,7 +75,7 @@ fn own_coefficient(road: Road, mode: u8) -> i64
     requires accepted { Accepted road }
     requires le_mode { 1 ≤ mode }
     requires mode_bound { mode ≤ 7 }
-    ensures { result ≡ ownCoefficient road mode }
+    ensures { result ≡ own_coefficient road mode }
 {
     let free = weighted_speed(mode, 1, road.free);
     let wave = weighted_speed(mode, 2, road.wave);
@@ -101,7 +101,7 @@ impl WholeRow {
         requires accepted { Accepted road }
         requires le_mode { 1 ≤ mode }
         requires mode_bound { mode ≤ 7 }
-        ensures { result ≡ wholeRow road mode }
+        ensures { result ≡ whole_row_of road mode }
     {
         WholeRow {
             left: weighted_speed(mode, 0, road.free),
@@ -114,10 +114,10 @@ impl WholeRow {
     // Internal: the row's value, which a foreign word may take below zero: the density after one step, times the divisor.
     pub fn applied(self, left: u32, own: u32, right: u32) -> i64
         requires sized { Sized self }
-        requires left_le_jam_ceiling { left ≤ jamCeiling }
-        requires own_le_jam_ceiling { own ≤ jamCeiling }
-        requires right_le_jam_ceiling { right ≤ jamCeiling }
-        ensures { result ≡ appliedTo self left own right }
+        requires left_le_jam_ceiling { left ≤ jam_ceiling }
+        requires own_le_jam_ceiling { own ≤ jam_ceiling }
+        requires right_le_jam_ceiling { right ≤ jam_ceiling }
+        ensures { result ≡ applied_to self left own right }
     {
         (left as i64) * self.left
             + (own as i64) * self.own
@@ -129,7 +129,7 @@ impl WholeRow {
 // Internal: the rows of all modes. A call works them once, and the table is then read at fixed places only.
 pub fn rows_of(road: Road) -> [WholeRow; 7]
     requires { Accepted road }
-    ensures { result ≡ wholeRows road }
+    ensures { result ≡ whole_rows road }
 {
     [
         WholeRow::of(road, 1),

@@ -1,7 +1,7 @@
 // Row prediction: the rows of a legal word applied to any accepted state.
 ghost use Rattle.std.specs.Prelude.{◌≡◌, length};
-ghost use Rattle.rows.specs.Rows.{rowNumerators};
-ghost use Rattle.rows.specs.Judging.{predictRefusal};
+ghost use Rattle.rows.specs.Rows.{row_numerators};
+ghost use Rattle.rows.specs.Judging.{predict_refusal};
 ghost use Rattle.rows.specs.Prediction.{PredictChecked, Predicts};
 
 use super::numerators::rows_of;
@@ -17,7 +17,7 @@ pub enum PredictAnswer {
 
 // Internal: the row prediction's refusal, or none.
 fn judged(road: Road, cells: &[u32], up: u32, down: u32, word: &[u8], out: usize) -> Refusal
-    ensures { result ≡ predictRefusal road cells.now up down word.now out }
+    ensures { result ≡ predict_refusal road cells.now up down word.now out }
 {
     let bad = checks::bad_output(cells.len(), out);
     words::judged_with_word(road, cells, up, down, word, bad)
@@ -26,7 +26,7 @@ fn judged(road: Road, cells: &[u32], up: u32, down: u32, word: &[u8], out: usize
 // Internal: the output then holds a numerator for each cell, by the row of the letters on its two faces.
 fn write_rows(road: Road, cells: &[u32], up: u32, down: u32, word: &[u8], out: &mut [i64])
     requires { PredictChecked road cells.now up down word.now (length out.old) }
-    ensures { out.new ≡ rowNumerators road up down word.now cells.now }
+    ensures { out.new ≡ row_numerators road up down word.now cells.now }
 {
     let rows = rows_of(road);
     let mut left = up;

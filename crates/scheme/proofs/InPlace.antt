@@ -11,8 +11,8 @@ use Rattle.scheme.specs.Advance.{ahead, advance, outflow, entering, leaving, ste
 use Rattle.scheme.specs.Sums.{Below}
 use Rattle.scheme.specs.Partners.{Lawful}
 use Rattle.scheme.specs.Calls.{Stepped}
-use Rattle.scheme.proofs.Range.{in-room}
-use Rattle.scheme.proofs.Ahead.{ahead-is, enters}
+use Rattle.scheme.proofs.Range.{in_room}
+use Rattle.scheme.proofs.Ahead.{ahead_is, enters}
 
 -- Why one list is enough (document 02, E5: "The step may not hold a second list of old densities"). With the list's places from 0, place i lies between faces i and i + 1. The densities before i are new
 -- and not read again, those from i on are old, and `inflow` is the flow over face i, worked from old densities: so `cells` says that the new ones in front, and what working on from the rest and this inflow
@@ -36,13 +36,13 @@ below_set j (a ∷ x) (suc i) v h k (suc n) = below_set j x i v (λ m. h (suc m)
 
 -- one cell of the step, its outflow known
 module _ (F : ℕ → ℕ → ℕ → ℕ) (i w d own : ℕ) {x rest : List ℕ} (here : x ≡ own ∷ rest) (out : ℕ) (over : out ≡ F i own (ahead d rest)) where
-  advance-cell : advance 1 F i w d x ≡ (own + w - out) ∷ advance 1 F (suc i) out d rest
+  advance_cell : advance 1 F i w d x ≡ (own + w - out) ∷ advance 1 F (suc i) out d rest
   unfolding advance
-  advance-cell = rw (here, over, one-mul own) refl
+  advance_cell = rw (here, over, one-mul own) refl
 
-  outflow-cell : outflow F i w d x ≡ outflow F (suc i) out d rest
+  outflow_cell : outflow F i w d x ≡ outflow F (suc i) out d rest
   unfolding outflow
-  outflow-cell = rw (here, over) refl
+  outflow_cell = rw (here, over) refl
 
 module _ {j c : ℕ} {F : ℕ → ℕ → ℕ → ℕ} (laws : Lawful 1 j c F) where
   pub begins : (up down : ℕ) (old : List ℕ) {first : ℕ} → 0 < length old → Below j old → first ≡ F 0 up (get_or old 0 0) → StepUnderway j F up down old first old 0 first
@@ -53,7 +53,7 @@ module _ {j c : ℕ} {F : ℕ → ℕ → ℕ → ℕ} (laws : Lawful 1 j c F) w
         long = refl;
         inside = pos;
         below = h;
-        room = rw e (in-room laws 0 up (get_or old 0 0) (h 0));
+        room = rw e (in_room laws 0 up (get_or old 0 0) (h 0));
         cells = ap (λ (w : ℕ). advance 1 F 1 w down old) same;
         entered = same;
         left = ap (λ (w : ℕ). outflow F 1 w down old) same;
@@ -65,18 +65,18 @@ module _ {j c : ℕ} {F : ℕ → ℕ → ℕ → ℕ} (laws : Lawful 1 j c F) w
         let own = get_or x i 0 in
         let new = own + inflow - out in
         let here = drop-cons x i 0 now.inside in
-        let over : out ≡ F (suc i) own (ahead down (drop (suc i) x)) = e ∙ ap (F (suc i) own) (sym (ahead-is down (drop-cons x (suc i) 0 h))) in
+        let over : out ≡ F (suc i) own (ahead down (drop (suc i) x)) = e ∙ ap (F (suc i) own) (sym (ahead_is down (drop-cons x (suc i) 0 h))) in
         let kept = drop-set-lt (suc i) x i new (omega arith) in
         record {
           long = length-set x i new ∙ now.long;
           inside = rw (length-set x i new) h;
           below = below_set j x i new now.below (let room = now.room in omega arith);
-          room = rw (get_or-set_other x i (suc i) new 0 (λ q. omega arith), e) (in-room laws (suc i) own (get_or x (suc i) 0) (now.below (suc i)));
+          room = rw (get_or-set_other x i (suc i) new 0 (λ q. omega arith), e) (in_room laws (suc i) own (get_or x (suc i) 0) (now.below (suc i)));
           cells =
               rw (take-suc-set x i new now.inside, kept, append_snoc)
-              (ap (λ (l : List ℕ). take i x ++ l) (sym (advance-cell F (suc i) inflow down own here out over)) ∙ now.cells);
+              (ap (λ (l : List ℕ). take i x ++ l) (sym (advance_cell F (suc i) inflow down own here out over)) ∙ now.cells);
           entered = now.entered;
-          left = rw kept (sym (outflow-cell F (suc i) inflow down own here out over) ∙ now.left);
+          left = rw kept (sym (outflow_cell F (suc i) inflow down own here out over) ∙ now.left);
         }
 
     -- the same, with the index as the code has it
@@ -94,7 +94,7 @@ module _ {j c : ℕ} {F : ℕ → ℕ → ℕ → ℕ} (laws : Lawful 1 j c F) w
         record {
           cells =
               rw (set_split x i new now.inside, rest)
-              (ap (λ (l : List ℕ). take i x ++ l) (sym (rw rest at (advance-cell F (suc i) inflow down own here out over))) ∙ now.cells);
+              (ap (λ (l : List ℕ). take i x ++ l) (sym (rw rest at (advance_cell F (suc i) inflow down own here out over))) ∙ now.cells);
           entered = now.entered;
-          left = sym (rw rest at (outflow-cell F (suc i) inflow down own here out over)) ∙ now.left;
+          left = sym (rw rest at (outflow_cell F (suc i) inflow down own here out over)) ∙ now.left;
         }

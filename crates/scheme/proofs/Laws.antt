@@ -8,44 +8,44 @@ use Rattle.road.specs.Judgement.{Accepted}
 use Rattle.road.specs.declared.Road.{Road}
 use Rattle.flux.specs.Face.{numerator, units, scaled}
 use Rattle.flux.specs.declared.pace.Pace.{Pace}
-use Rattle.flux.proofs.Laws.{capped-law, moved-law, scaled-law, accepted-sound}
-use Rattle.flux.proofs.Rounding.{units-spread, units-cap}
-use Rattle.flux.proofs.Scaling.{min-times, homogeneous, scaled-one}
+use Rattle.flux.proofs.Laws.{capped_law, moved_law, scaled_law, accepted_sound}
+use Rattle.flux.proofs.Rounding.{units_spread, units_cap}
+use Rattle.flux.proofs.Scaling.{min_times, homogeneous, scaled_one}
 use Rattle.scheme.specs.Advance.{stepped}
 use Rattle.scheme.specs.Sums.{Below}
 use Rattle.scheme.specs.Partners.{Lawful, Partners}
 use Rattle.scheme.specs.Rounded.{moved}
-use Rattle.scheme.specs.Exact.{exactFlow, exactStep}
+use Rattle.scheme.specs.Exact.{exact_flow, exact_step}
 use Rattle.scheme.specs.Calls.{Ready}
 
 -- the exact flow at scale 1: the smaller of the flow numerator and the cap × D
 abbrev pub whole : Road → List ℕ → ℕ → ℕ → ℕ → ℕ
 whole r caps face a b = min (numerator r a b) (get_or caps face 0 * r.divisor)
 
-whole-one : (r : Road) (caps : List ℕ) → exactFlow r caps 1 ≡ whole r caps
-whole-one r caps i face a b = min (numerator (scaled-one r i) a b) (get_or caps face 0 * mul-one r.divisor i)
+whole_one : (r : Road) (caps : List ℕ) → exact_flow r caps 1 ≡ whole r caps
+whole_one r caps i face a b = min (numerator (scaled_one r i) a b) (get_or caps face 0 * mul-one r.divisor i)
 
-pub exactStep-one : (r : Road) (caps : List ℕ) (u d : ℕ) (xs : List ℕ) → exactStep r caps 1 u d xs ≡ stepped r.divisor (whole r caps) u d xs
-exactStep-one r caps u d xs = rw (one-mul u, one-mul d) (ap (λ (F : ℕ → ℕ → ℕ → ℕ). stepped r.divisor F u d xs) (whole-one r caps))
+pub exact_step_one : (r : Road) (caps : List ℕ) (u d : ℕ) (xs : List ℕ) → exact_step r caps 1 u d xs ≡ stepped r.divisor (whole r caps) u d xs
+exact_step_one r caps u d xs = rw (one-mul u, one-mul d) (ap (λ (F : ℕ → ℕ → ℕ → ℕ). stepped r.divisor F u d xs) (whole_one r caps))
 
 -- what a face moves are the whole units of that flow: the cap of k units is a cap of k × D on the numerator
-pub moved-is : (r : Road) → Accepted r → (caps : List ℕ) (i a b : ℕ) → moved r caps i a b ≡ units r (whole r caps i a b)
-moved-is r ok caps i a b = sym (units-cap r ok.divisor-low (numerator r a b) (get_or caps i 0))
+pub moved_is : (r : Road) → Accepted r → (caps : List ℕ) (i a b : ℕ) → moved r caps i a b ≡ units r (whole r caps i a b)
+moved_is r ok caps i a b = sym (units_cap r ok.divisor_low (numerator r a b) (get_or caps i 0))
 
 -- k times the densities, at k times the scale, give k times the flow: so of the numerator and of the cap × D × Z
-pub capped-homogeneous : (r : Road) (caps : List ℕ) (k z i a b : ℕ) → exactFlow r caps (k * z) i (k * a) (k * b) ≡ k * exactFlow r caps z i a b
-capped-homogeneous r caps k z i a b =
+pub capped_homogeneous : (r : Road) (caps : List ℕ) (k z i a b : ℕ) → exact_flow r caps (k * z) i (k * a) (k * b) ≡ k * exact_flow r caps z i a b
+capped_homogeneous r caps k z i a b =
     let cap = get_or caps i 0 in
     ap₂ min (homogeneous k z r a b) (ap (λ (x : ℕ). cap * x) (mul_left_comm r.divisor k z) ∙ mul_left_comm cap k (r.divisor * z))
-    ∙ min-times k (numerator (scaled z r) a b) (cap * (r.divisor * z))
+    ∙ min_times k (numerator (scaled z r) a b) (cap * (r.divisor * z))
 
-pub partners : (r : Road) (caps : List ℕ) → Accepted r → Partners r.divisor r.jam r.critical (units r) (moved r caps) (exactFlow r caps)
+pub partners : (r : Road) (caps : List ℕ) → Accepted r → Partners r.divisor r.jam r.critical (units r) (moved r caps) (exact_flow r caps)
 partners r caps ok = record {
-  rounded = λ i. capped-law (moved-law r ok) (get_or caps i 0);
-  exact = λ z i. capped-law (scaled-law z r (accepted-sound ok)) (get_or caps i 0 * (r.divisor * z));
-  homogeneous = capped-homogeneous r caps;
-  whole = λ i a b. moved-is r ok caps i a b ∙ ap (λ (F : ℕ → ℕ → ℕ → ℕ). units r (F i a b)) (sym (whole-one r caps));
-  spread = units-spread r ok.divisor-low;
+  rounded = λ i. capped_law (moved_law r ok) (get_or caps i 0);
+  exact = λ z i. capped_law (scaled_law z r (accepted_sound ok)) (get_or caps i 0 * (r.divisor * z));
+  homogeneous = capped_homogeneous r caps;
+  whole = λ i a b. moved_is r ok caps i a b ∙ ap (λ (F : ℕ → ℕ → ℕ → ℕ). units r (F i a b)) (sym (whole_one r caps));
+  spread = units_spread r ok.divisor_low;
 }
 
 -- where a call is ready, its rounded flow is lawful
@@ -53,6 +53,6 @@ pub lawful : {p : Pace} {caps xs : List ℕ} {up down : ℕ} → Ready p caps xs
 lawful {p} {caps} h = (partners p.road caps h.accepted).rounded
 
 -- and the next call is ready, with as many cells in range
-pub ready-again : {p : Pace} {caps xs ys : List ℕ} {up down : ℕ} → Ready p caps xs up down → length ys ≡ length xs → Below p.road.jam ys → Ready p caps ys up down
-ready-again h e below =
-    record { accepted = h.accepted; pace-of-road = h.pace-of-road; caps-long = rw e h.caps-long; some = rw e h.some; below = below; up-high = h.up-high; down-high = h.down-high }
+pub ready_again : {p : Pace} {caps xs ys : List ℕ} {up down : ℕ} → Ready p caps xs up down → length ys ≡ length xs → Below p.road.jam ys → Ready p caps ys up down
+ready_again h e below =
+    record { accepted = h.accepted; pace_of_road = h.pace_of_road; caps_long = rw e h.caps_long; some = rw e h.some; below = below; up_high = h.up_high; down_high = h.down_high }

@@ -7,7 +7,7 @@ ahead down [] = down
 ahead down (x ∷ xs) = x
 
 -- the cells after the step, their first left face already worked: new = m × old + in − out, where face i is the first cell's right one.
--- On an accepted road this subtraction is never cut off at 0: new + out ≡ m × old + in at each cell, which `round-cell` and `exact-cell` of proofs/Promises.antt prove of both schemes
+-- On an accepted road this subtraction is never cut off at 0: new + out ≡ m × old + in at each cell, which `round_cell` and `exact_cell` of proofs/Promises.antt prove of both schemes
 unfoldable pub advance : ℕ → (ℕ → ℕ → ℕ → ℕ) → ℕ → ℕ → ℕ → List ℕ → List ℕ
 advance m F i inflow down [] = []
 advance m F i inflow down (x ∷ xs) =
@@ -40,5 +40,5 @@ unfoldable pub padded : ℕ → ℕ → List ℕ → List ℕ
 padded up down xs = up ∷ (xs ++ (down ∷ []))
 
 -- the flows over faces 0 to n in one step
-unfoldable pub faceFlows : (ℕ → ℕ → ℕ → ℕ) → ℕ → ℕ → List ℕ → List ℕ
-faceFlows F up down xs = flows F 1 (entering F up down xs) down xs
+unfoldable pub face_flows : (ℕ → ℕ → ℕ → ℕ) → ℕ → ℕ → List ℕ → List ℕ
+face_flows F up down xs = flows F 1 (entering F up down xs) down xs

@@ -6,14 +6,14 @@ use Rattle.scheme.specs.Advance.{stepped}
 use Rattle.scheme.specs.Runs.{ran, scale_of}
 
 -- the flow numerator with Z × C and Z × J in place of C and J; "f becomes the smaller of document 01's f and cap × D × Z"
-abbrev pub exactFlow : Road → List ℕ → ℕ → ℕ → ℕ → ℕ → ℕ
-exactFlow r caps z face a b = min (numerator (scaled z r) a b) (get_or caps face 0 * (r.divisor * z))
+abbrev pub exact_flow : Road → List ℕ → ℕ → ℕ → ℕ → ℕ → ℕ
+exact_flow r caps z face a b = min (numerator (scaled z r) a b) (get_or caps face 0 * (r.divisor * z))
 
 -- one step at scale Z, the ends times Z: cell i becomes D × x(i) + f(i−1) − f(i), at scale D × Z
-abbrev pub exactStep : Road → List ℕ → ℕ → ℕ → ℕ → List ℕ → List ℕ
-exactStep r caps z up down xs = stepped r.divisor (exactFlow r caps z) (z * up) (z * down) xs
+abbrev pub exact_step : Road → List ℕ → ℕ → ℕ → ℕ → List ℕ → List ℕ
+exact_step r caps z up down xs = stepped r.divisor (exact_flow r caps z) (z * up) (z * down) xs
 
 -- a step for each pair of the end lists, each from the state and the scale that the last one left
-unfoldable pub exactRun : Road → List ℕ → ℕ → List ℕ → List ℕ → List ℕ → List ℕ
+unfoldable pub exact_run : Road → List ℕ → ℕ → List ℕ → List ℕ → List ℕ → List ℕ
 unfolding ran scale_of
-exactRun r caps z = ran (λ t. exactStep r caps (scale_of r.divisor z t))
+exact_run r caps z = ran (λ t. exact_step r caps (scale_of r.divisor z t))

@@ -24,18 +24,18 @@ iterated S zero xs = xs
 iterated S (suc k) xs = iterated S k (S xs)
 
 -- the run of a flow F (step, face, upstream density, downstream density) with multiplier m: its cells, and the sums over face 0 and over face n
-abbrev pub ranBy : ℕ → (ℕ → ℕ → ℕ → ℕ → ℕ) → List ℕ → List ℕ → List ℕ → List ℕ
-ranBy m F = ran (λ t. stepped m (F t))
+abbrev pub ran_by : ℕ → (ℕ → ℕ → ℕ → ℕ → ℕ) → List ℕ → List ℕ → List ℕ → List ℕ
+ran_by m F = ran (λ t. stepped m (F t))
 
-abbrev pub enteredBy : ℕ → (ℕ → ℕ → ℕ → ℕ → ℕ) → List ℕ → List ℕ → List ℕ → ℕ
-enteredBy m F = summed (λ t. stepped m (F t)) (λ t. entering (F t))
+abbrev pub entered_by : ℕ → (ℕ → ℕ → ℕ → ℕ → ℕ) → List ℕ → List ℕ → List ℕ → ℕ
+entered_by m F = summed (λ t. stepped m (F t)) (λ t. entering (F t))
 
-abbrev pub leftBy : ℕ → (ℕ → ℕ → ℕ → ℕ → ℕ) → List ℕ → List ℕ → List ℕ → ℕ
-leftBy m F = summed (λ t. stepped m (F t)) (λ t. leaving (F t))
+abbrev pub left_by : ℕ → (ℕ → ℕ → ℕ → ℕ → ℕ) → List ℕ → List ℕ → List ℕ → ℕ
+left_by m F = summed (λ t. stepped m (F t)) (λ t. leaving (F t))
 
 -- a step of a flow G (scale, face, upstream density, downstream density) at scale z, the ends times z, leaves the cells at scale m × z
-abbrev pub stepAt : ℕ → (ℕ → ℕ → ℕ → ℕ → ℕ) → ℕ → ℕ → ℕ → List ℕ → List ℕ
-stepAt m G z up down xs = stepped m (G z) (z * up) (z * down) xs
+abbrev pub step_at : ℕ → (ℕ → ℕ → ℕ → ℕ → ℕ) → ℕ → ℕ → ℕ → List ℕ → List ℕ
+step_at m G z up down xs = stepped m (G z) (z * up) (z * down) xs
 
 -- the scale of step t, that of step 0 being z
 unfoldable pub scale_of : ℕ → ℕ → ℕ → ℕ
@@ -43,5 +43,5 @@ scale_of m z zero = z
 scale_of m z (suc t) = scale_of m (m * z) t
 
 -- the run of a flow G (step, then as above) from scale z on
-abbrev pub ranAt : ℕ → (ℕ → ℕ → ℕ → ℕ → ℕ → ℕ) → ℕ → List ℕ → List ℕ → List ℕ → List ℕ
-ranAt m G z = ran (λ t. stepAt m (G t) (scale_of m z t))
+abbrev pub ran_at : ℕ → (ℕ → ℕ → ℕ → ℕ → ℕ → ℕ) → ℕ → List ℕ → List ℕ → List ℕ → List ℕ
+ran_at m G z = ran (λ t. step_at m (G t) (scale_of m z t))

@@ -1,7 +1,7 @@
 // One step, in place: all faces worked from the old densities. That it keeps no second list is read off the code; no contract
 // speaks of memory.
 ghost use Rattle.std.specs.Prelude.{◌≡◌};
-ghost use Rattle.scheme.specs.Rounded.{moved, openCap};
+ghost use Rattle.scheme.specs.Rounded.{moved, open_cap};
 ghost use Rattle.scheme.specs.Calls.{Ready, Stepped, SteppedByFaces};
 
 use flux::Pace;
@@ -13,12 +13,12 @@ pub struct Moved {
     pub left: u32,
 }
 
-// The cap of an open face: the largest that a cap can be (`openCap`).
+// The cap of an open face: the largest that a cap can be (`open_cap`).
 pub const OPEN: u32 = 4294967295;
 
 // Internal: the same, with the equation to its definition, so that another constant is refused here.
 pub fn open_cap() -> u32
-    ensures { result ≡ openCap }
+    ensures { result ≡ open_cap }
 {
     OPEN
 }

@@ -7,14 +7,14 @@ use lib.Ieee.{binary64, mul}
 use Rattle.road.specs.Judgement.{Accepted}
 use Rattle.road.specs.declared.Road.{Road}
 use Rattle.floats.specs.Worth.{Worth}
-use Rattle.floats.proofs.Round.{ofInt-worth}
-use Rattle.floats.proofs.Product.{mul-worth}
+use Rattle.floats.proofs.Round.{of_int_worth}
+use Rattle.floats.proofs.Product.{mul_worth}
 use Rattle.station.specs.Station.{whole}
 
-pub wave-jam : {r : Road} → Accepted r → Worth (mul binary64 (whole r.wave) (whole r.jam)) (pos (r.wave * r.jam))
-wave-jam {r} ok =
-    let wave = le_trans ok.wave-high ok.divisor-high in
-    mul-worth binary64
-    (ofInt-worth binary64 (pos r.wave) (le_trans wave (lit≤ tt)))
-    (ofInt-worth binary64 (pos r.jam) (le_trans ok.jam-high (lit≤ tt)))
-    (le_trans (mul-le-mul wave ok.jam-high) (lit≤ tt))
+pub wave_jam : {r : Road} → Accepted r → Worth (mul binary64 (whole r.wave) (whole r.jam)) (pos (r.wave * r.jam))
+wave_jam {r} ok =
+    let wave = le_trans ok.wave_high ok.divisor_high in
+    mul_worth binary64
+    (of_int_worth binary64 (pos r.wave) (le_trans wave (lit≤ tt)))
+    (of_int_worth binary64 (pos r.jam) (le_trans ok.jam_high (lit≤ tt)))
+    (le_trans (mul-le-mul wave ok.jam_high) (lit≤ tt))

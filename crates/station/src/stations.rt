@@ -1,6 +1,6 @@
 // Station readings: a detector gives a density, or a flow with a speed, or a speed alone; a filter gets a density.
 ghost use Rattle.std.specs.Prelude.{◌≡◌};
-ghost use Rattle.station.specs.Station.{whole, badNumber, badGiven, timesDivisor, tooFast, speedDensity, estimateOf, stationRefusal, Stations};
+ghost use Rattle.station.specs.Station.{whole, bad_number, bad_given, times_divisor, too_fast, speed_density, estimate_of, station_refusal, Stations};
 
 use refusal::Refusal;
 use road::Road;
@@ -36,7 +36,7 @@ fn whole(n: u32) -> f64
 
 // Internal: not a number, below 0 or infinite. The sign of a zero does not count.
 fn bad_number(x: f64) -> bool
-    ensures { result ≡ badNumber x }
+    ensures { result ≡ bad_number x }
 {
     if x != x {
         return true;
@@ -49,7 +49,7 @@ fn bad_number(x: f64) -> bool
 
 // Internal: a flow and its speed, of which one is bad or the speed is zero.
 fn bad_pair(flow: f64, speed: f64) -> bool
-    ensures { result ≡ badGiven (StationReading.FlowAndSpeed flow speed) }
+    ensures { result ≡ bad_given (StationReading.FlowAndSpeed flow speed) }
 {
     choice::either(
         bad_number(flow),
@@ -59,7 +59,7 @@ fn bad_pair(flow: f64, speed: f64) -> bool
 
 // Internal: 16, some number that was given is bad.
 fn bad_given(reading: StationReading) -> bool
-    ensures { result ≡ badGiven reading }
+    ensures { result ≡ bad_given reading }
 {
     match reading {
         StationReading::Density(density) => bad_number(density),
@@ -70,7 +70,7 @@ fn bad_given(reading: StationReading) -> bool
 
 // Internal: a speed in cells a step times the divisor, rounded once.
 fn times_divisor(road: Road, speed: f64) -> f64
-    ensures { result ≡ timesDivisor road speed }
+    ensures { result ≡ times_divisor road speed }
 {
     speed * whole(road.divisor)
 }
@@ -78,7 +78,7 @@ fn times_divisor(road: Road, speed: f64) -> f64
 // Internal: 17, a lone speed whose product with the divisor, rounded, is at or above the free speed's: no single density
 // moves so fast.
 fn too_fast(road: Road, reading: StationReading) -> bool
-    ensures { result ≡ tooFast road reading }
+    ensures { result ≡ too_fast road reading }
 {
     match reading {
         StationReading::Density(_) => false,
@@ -89,14 +89,14 @@ fn too_fast(road: Road, reading: StationReading) -> bool
 
 // Internal: the density that moves at a lone speed, each operation rounded once.
 fn speed_density(road: Road, speed: f64) -> f64
-    ensures { result ≡ speedDensity road speed }
+    ensures { result ≡ speed_density road speed }
 {
     whole(road.wave) * whole(road.jam) / (times_divisor(road, speed) + whole(road.wave))
 }
 
 // Internal: the estimate of a reading, judged or not.
 fn estimate_of(road: Road, reading: StationReading) -> f64
-    ensures { result ≡ estimateOf road reading }
+    ensures { result ≡ estimate_of road reading }
 {
     match reading {
         StationReading::Density(density) => density,
@@ -107,7 +107,7 @@ fn estimate_of(road: Road, reading: StationReading) -> f64
 
 // Internal: the reading's refusal, or none.
 fn judged(road: Road, reading: StationReading) -> Refusal
-    ensures { result ≡ stationRefusal road reading }
+    ensures { result ≡ station_refusal road reading }
 {
     let given = bad_given(reading);
     let fast = too_fast(road, reading);

@@ -11,5 +11,5 @@ abbrev pub patch : ℕ
 patch = 0
 
 -- 0.11.0 is 1100: ten thousand a major, a hundred a minor version
-abbrev pub versionNumber : ℕ
-versionNumber = major * 10000 + minor * 100 + patch
+abbrev pub version_number : ℕ
+version_number = major * 10000 + minor * 100 + patch

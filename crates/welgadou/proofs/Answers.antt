@@ -9,19 +9,19 @@ use Rattle.refusal.specs.declared.Refusal.{Refusal}
 use Rattle.welgadou.specs.Parts.{written}
 
 -- what the answer means that was matched is what the call's definition says
-pub meaning-along : {A M : Type 0} {a b : A} {defined : M} (meaning : A → M) → a ≡ b → meaning a ≡ defined → meaning b ≡ defined
-meaning-along meaning e means = ap meaning (sym e) ∙ means
+pub meaning_along : {A M : Type 0} {a b : A} {defined : M} (meaning : A → M) → a ≡ b → meaning a ≡ defined → meaning b ≡ defined
+meaning_along meaning e means = ap meaning (sym e) ∙ means
 
 -- demand 1 of the answer below holds of the answer that was matched
-pub judged-told : {A : Type 0} {a b : A} (judged : Refusal → Type 0) (refusal : A → Refusal) → a ≡ b → judged (refusal a) → judged (refusal b)
-judged-told {A} judged refusal e h = subst (λ (x : A). judged (refusal x)) e h
+pub judged_told : {A : Type 0} {a b : A} (judged : Refusal → Type 0) (refusal : A → Refusal) → a ≡ b → judged (refusal a) → judged (refusal b)
+judged_told {A} judged refusal e h = subst (λ (x : A). judged (refusal x)) e h
 
 -- a call's answer is `done` where the refusal's number is 0, else `refused`: so where it is not `done` the number is not 0
-pub refusal-counts : {A : Type 0} {a done : A} {number returned : ℕ} (refused : A)
+pub refusal_counts : {A : Type 0} {a done : A} {number returned : ℕ} (refused : A)
     → (a ≡ done → ◌≡◌ {A = ℕ} 0 1) → a ≡ pick (eqb number 0) done refused → returned ≡ number → returned ≡ 0 → ⊥
-refusal-counts {number = number} refused not_done answer same z =
+refusal_counts {number = number} refused not_done answer same z =
     let no = not_done (answer ∙ (rw (eq-eqb number 0 (sym same ∙ z)) refl)) in omega arith
 
 -- and what stands behind a pointer, whatever its type, is its former contents
-pub former-when-refused : {C : Type 0} {returned : ℕ} → (returned ≡ 0 → ⊥) → (value former : C) → former ≡ written returned value former
-former-when-refused {returned = returned} counts value former = rw (ne_eqb returned 0 counts) refl
+pub former_when_refused : {C : Type 0} {returned : ℕ} → (returned ≡ 0 → ⊥) → (value former : C) → former ≡ written returned value former
+former_when_refused {returned = returned} counts value former = rw (ne_eqb returned 0 counts) refl

@@ -8,23 +8,23 @@ use borrow.Author.Tests.{eq-eqb}
 use Rattle.refusal.specs.Table.{refused}
 use Rattle.road.specs.declared.Road.{Road}
 use Rattle.nearest.specs.declared.ranking.NearestAnswer.{NearestAnswer}
-use Rattle.nearest.specs.Nearest.{nearestAnswer, nearestNumber, nearestPlace, NearestJudged, Nearests}
+use Rattle.nearest.specs.Nearest.{nearest_answer, nearest_number, nearest_place, NearestJudged, Nearests}
 use Rattle.welgadou.specs.Rankings.{NearestRanked}
-use Rattle.welgadou.proofs.Answers.{meaning-along, judged-told}
+use Rattle.welgadou.proofs.Answers.{meaning_along, judged_told}
 
 -- the ranking goes through two lists alone, so that one lemma serves both answers
-pub nearest-answered : {r : Road} {cells : List ℕ} {up down : ℕ} {numbers numbers-next : List ℕ} {changes changes-next : List ℤ} {a : NearestAnswer}
+pub nearest_answered : {r : Road} {cells : List ℕ} {up down : ℕ} {numbers numbers-next : List ℕ} {changes changes-next : List ℤ} {a : NearestAnswer}
     → Nearests r cells up down numbers numbers-next changes changes-next a
-    → (b : NearestAnswer) → a ≡ b → NearestRanked r cells up down numbers numbers-next changes changes-next (nearestPlace b) (nearestNumber b)
-unfolding nearestAnswer
-nearest-answered {r = r} {cells = cells} {up = up} {down = down} {numbers = numbers} {changes = changes} p b e =
-    let number = meaning-along nearestNumber e p.number in
+    → (b : NearestAnswer) → a ≡ b → NearestRanked r cells up down numbers numbers-next changes changes-next (nearest_place b) (nearest_number b)
+unfolding nearest_answer
+nearest_answered {r = r} {cells = cells} {up = up} {down = down} {numbers = numbers} {changes = changes} p b e =
+    let number = meaning_along nearest_number e p.number in
     record {
       returned = number;
-      placed = meaning-along nearestPlace e p.place;
-      numbers-written = p.numbers-written;
-      changes-written = p.changes-written;
+      placed = meaning_along nearest_place e p.place;
+      numbers_written = p.numbers_written;
+      changes_written = p.changes_written;
       judged =
-          judged-told (NearestJudged r cells up down (length numbers) (length changes)) (λ (x : NearestAnswer). refused (nearestNumber x) (nearestPlace x)) e p.judged;
+          judged_told (NearestJudged r cells up down (length numbers) (length changes)) (λ (x : NearestAnswer). refused (nearest_number x) (nearest_place x)) e p.judged;
       ranked = λ z. p.ranked (p.answer ∙ rw (eq-eqb _ 0 (sym number ∙ z)) refl);
     }

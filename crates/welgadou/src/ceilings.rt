@@ -1,11 +1,11 @@
 // The ceilings for C, so that a C program repeats none.
 ghost use Rattle.std.specs.Prelude.{◌≡◌};
-ghost use Rattle.road.specs.Ceilings.{cellsCeiling, horizonCeiling, divisorCeiling, jamCeiling, countCeiling};
+ghost use Rattle.road.specs.Ceilings.{cells_ceiling, horizon_ceiling, divisor_ceiling, jam_ceiling, count_ceiling};
 
 // The most cells of a road.
 #[unsafe(no_mangle)]
 pub extern "C" fn welgadou_cells_ceiling() -> u32
-    ensures { result ≡ cellsCeiling }
+    ensures { result ≡ cells_ceiling }
 {
     road::cells_ceiling()
 }
@@ -13,7 +13,7 @@ pub extern "C" fn welgadou_cells_ceiling() -> u32
 // The most steps of a forecast or settling run.
 #[unsafe(no_mangle)]
 pub extern "C" fn welgadou_horizon_ceiling() -> u32
-    ensures { result ≡ horizonCeiling }
+    ensures { result ≡ horizon_ceiling }
 {
     road::horizon_ceiling()
 }
@@ -21,7 +21,7 @@ pub extern "C" fn welgadou_horizon_ceiling() -> u32
 // The largest divisor.
 #[unsafe(no_mangle)]
 pub extern "C" fn welgadou_divisor_ceiling() -> u32
-    ensures { result ≡ divisorCeiling }
+    ensures { result ≡ divisor_ceiling }
 {
     road::divisor_ceiling()
 }
@@ -29,7 +29,7 @@ pub extern "C" fn welgadou_divisor_ceiling() -> u32
 // The largest jam density.
 #[unsafe(no_mangle)]
 pub extern "C" fn welgadou_jam_ceiling() -> u32
-    ensures { result ≡ jamCeiling }
+    ensures { result ≡ jam_ceiling }
 {
     road::jam_ceiling()
 }
@@ -37,7 +37,7 @@ pub extern "C" fn welgadou_jam_ceiling() -> u32
 // The most cells of a word count.
 #[unsafe(no_mangle)]
 pub extern "C" fn welgadou_count_ceiling() -> u32
-    ensures { result ≡ countCeiling }
+    ensures { result ≡ count_ceiling }
 {
     road::count_ceiling()
 }

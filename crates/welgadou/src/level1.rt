@@ -1,5 +1,5 @@
 // Level 1 for C: forecast and settling run.
-ghost use Rattle.welgadou.specs.Parts.{roadOf, totalsOf};
+ghost use Rattle.welgadou.specs.Parts.{road_of, totals_of};
 ghost use Rattle.welgadou.specs.Level1.{Forecasted, SettledRun};
 
 use super::parts::flag;
@@ -28,7 +28,7 @@ pub extern "C" fn welgadou_forecast_3(
     total_left: &mut u64,
     place: &mut u32,
 ) -> u32
-    ensures { Forecasted (roadOf divisor free wave jam critical) caps.now cells.now upstream.now downstream.now horizon out.old out.new entered.old entered.new left.old left.new (totalsOf total_entered.old total_left.old) (totalsOf total_entered.new total_left.new) place.new result }
+    ensures { Forecasted (road_of divisor free wave jam critical) caps.now cells.now upstream.now downstream.now horizon out.old out.new entered.old entered.new left.old left.new (totals_of total_entered.old total_left.old) (totals_of total_entered.new total_left.new) place.new result }
 {
     let road = Road {
         divisor,
@@ -78,7 +78,7 @@ pub extern "C" fn welgadou_settle_2(
     steps: &mut u32,
     place: &mut u32,
 ) -> u32
-    ensures { SettledRun (roadOf divisor free wave jam critical) caps.now cells.now upstream downstream horizon out.old out.new settled.old settled.new steps.old steps.new place.new result }
+    ensures { SettledRun (road_of divisor free wave jam critical) caps.now cells.now upstream downstream horizon out.old out.new settled.old settled.new steps.old steps.new place.new result }
 {
     let road = Road {
         divisor,

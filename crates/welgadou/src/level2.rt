@@ -1,5 +1,5 @@
 // Level 2 for C: reading, fit test, row prediction, candidate prediction, word count.
-ghost use Rattle.welgadou.specs.Parts.{roadOf};
+ghost use Rattle.welgadou.specs.Parts.{road_of};
 ghost use Rattle.welgadou.specs.Level2.{StateRead, WordFitted, RowsPredicted, CandidatePredicted, WordsCounted};
 
 use super::parts::{flag, mode_byte};
@@ -27,7 +27,7 @@ pub extern "C" fn welgadou_read(
     queued: &mut u32,
     place: &mut u32,
 ) -> u32
-    ensures { StateRead (roadOf divisor free wave jam critical) cells.now upstream downstream letters.old letters.new modes.old modes.new counts.old counts.new queued.old queued.new place.new result }
+    ensures { StateRead (road_of divisor free wave jam critical) cells.now upstream downstream letters.old letters.new modes.old modes.new counts.old counts.new queued.old queued.new place.new result }
 {
     let road = Road {
         divisor,
@@ -71,7 +71,7 @@ pub extern "C" fn welgadou_fit(
     face: &mut u32,
     place: &mut u32,
 ) -> u32
-    ensures { WordFitted (roadOf divisor free wave jam critical) cells.now upstream downstream word.now holds.old holds.new face.old face.new place.new result }
+    ensures { WordFitted (road_of divisor free wave jam critical) cells.now upstream downstream word.now holds.old holds.new face.old face.new place.new result }
 {
     let road = Road {
         divisor,
@@ -110,7 +110,7 @@ pub extern "C" fn welgadou_rows(
     out: &mut [i64],
     place: &mut u32,
 ) -> u32
-    ensures { RowsPredicted (roadOf divisor free wave jam critical) cells.now upstream downstream word.now out.old out.new place.new result }
+    ensures { RowsPredicted (road_of divisor free wave jam critical) cells.now upstream downstream word.now out.old out.new place.new result }
 {
     let road = Road {
         divisor,
@@ -147,7 +147,7 @@ pub extern "C" fn welgadou_candidate_2(
     numerator: &mut f64,
     place: &mut u32,
 ) -> u32
-    ensures { CandidatePredicted (roadOf divisor free wave jam critical) mode left own right numerator.old numerator.new place.new result }
+    ensures { CandidatePredicted (road_of divisor free wave jam critical) mode left own right numerator.old numerator.new place.new result }
 {
     let road = Road {
         divisor,

@@ -1,10 +1,10 @@
 // What the C calls share: the flag of an answer, and the byte of a mode.
 ghost use Rattle.std.specs.Prelude.{◌≡◌};
-ghost use Rattle.welgadou.specs.Parts.{flagOf, ModeByte};
+ghost use Rattle.welgadou.specs.Parts.{flag_of, ModeByte};
 
 // Internal: 1 for true, 0 for false.
 pub fn flag(b: bool) -> u32
-    ensures { result ≡ flagOf b }
+    ensures { result ≡ flag_of b }
 {
     if b { 1 } else { 0 }
 }

@@ -1,5 +1,5 @@
 // How near the next mode is, for C, Level 3.
-ghost use Rattle.welgadou.specs.Parts.{roadOf};
+ghost use Rattle.welgadou.specs.Parts.{road_of};
 ghost use Rattle.welgadou.specs.Rankings.{NearestRanked};
 
 use nearest::NearestAnswer;
@@ -21,7 +21,7 @@ pub extern "C" fn welgadou_nearest(
     changes: &mut [i32],
     place: &mut u32,
 ) -> u32
-    ensures { NearestRanked (roadOf divisor free wave jam critical) cells.now upstream downstream numbers.old numbers.new changes.old changes.new place.new result }
+    ensures { NearestRanked (road_of divisor free wave jam critical) cells.now upstream downstream numbers.old numbers.new changes.old changes.new place.new result }
 {
     let road = Road {
         divisor,

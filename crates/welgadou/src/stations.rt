@@ -1,6 +1,6 @@
 // Station readings for C, Level 3: one call a kind, so that no code of a kind can be wrong.
 ghost use Rattle.station.specs.declared.stations.StationReading.TheVariants.{Density, FlowAndSpeed, Speed};
-ghost use Rattle.welgadou.specs.Parts.{roadOf};
+ghost use Rattle.welgadou.specs.Parts.{road_of};
 ghost use Rattle.welgadou.specs.Stations.{StationEstimated};
 
 use road::Road;
@@ -36,7 +36,7 @@ pub extern "C" fn welgadou_station_density(
     estimate: &mut f64,
     place: &mut u32,
 ) -> u32
-    ensures { StationEstimated (roadOf divisor free wave jam critical) (Density density) estimate.old estimate.new place.new result }
+    ensures { StationEstimated (road_of divisor free wave jam critical) (Density density) estimate.old estimate.new place.new result }
 {
     let road = Road {
         divisor,
@@ -62,7 +62,7 @@ pub extern "C" fn welgadou_station_flow(
     estimate: &mut f64,
     place: &mut u32,
 ) -> u32
-    ensures { StationEstimated (roadOf divisor free wave jam critical) (FlowAndSpeed flow speed) estimate.old estimate.new place.new result }
+    ensures { StationEstimated (road_of divisor free wave jam critical) (FlowAndSpeed flow speed) estimate.old estimate.new place.new result }
 {
     let road = Road {
         divisor,
@@ -92,7 +92,7 @@ pub extern "C" fn welgadou_station_speed(
     estimate: &mut f64,
     place: &mut u32,
 ) -> u32
-    ensures { StationEstimated (roadOf divisor free wave jam critical) (Speed speed) estimate.old estimate.new place.new result }
+    ensures { StationEstimated (road_of divisor free wave jam critical) (Speed speed) estimate.old estimate.new place.new result }
 {
     let road = Road {
         divisor,

@@ -1,10 +1,10 @@
 // Words: the lowest face that offends, and check 12 of the refusal table.
 ghost use Rattle.std.specs.Prelude.{◌≡◌, ◌≤◌, length};
-ghost use Rattle.road.specs.Ceilings.{cellsCeiling};
-ghost use Rattle.refusal.specs.Table.{orIf, judgeBelow};
-ghost use Rattle.flux.specs.Face.{letterD};
-ghost use Rattle.words.specs.Words.{illegalPair, offends, firstOffence};
-ghost use Rattle.words.specs.Judging.{badWord, wordPlace, pairWordChecks, stateWordRefusal};
+ghost use Rattle.road.specs.Ceilings.{cells_ceiling};
+ghost use Rattle.refusal.specs.Table.{or_if, judge_below};
+ghost use Rattle.flux.specs.Face.{letter_d};
+ghost use Rattle.words.specs.Words.{illegal_pair, offends, first_offence};
+ghost use Rattle.words.specs.Judging.{bad_word, word_place, pair_word_checks, state_word_refusal};
 
 use flux::{D, L, W};
 use refusal::Refusal;
@@ -12,7 +12,7 @@ use road::Road;
 
 // Internal: whether no two neighbouring faces have these letters: W followed by D, L followed by L.
 fn is_illegal(s: u8, t: u8) -> bool
-    ensures { result ≡ illegalPair s t }
+    ensures { result ≡ illegal_pair s t }
 {
     ((s == W) & (t == D)) | ((s == L) & (t == L))
 }
@@ -27,7 +27,7 @@ fn offends(before: u8, s: u8) -> bool
 // Internal: the lowest face that offends, or the number of faces where none does. Any letter may follow D, so the first
 // face stands as if after D.
 fn first_offence(word: &[u8]) -> usize
-    ensures { result ≡ firstOffence letterD word.now }
+    ensures { result ≡ first_offence letter_d word.now }
 {
     let mut before = D;
     let mut i = 0;
@@ -45,8 +45,8 @@ fn first_offence(word: &[u8]) -> usize
 // Internal: check 12 below a refusal by the checks above: a word of another length than n+1, whose place is n+1, or one that
 // is not legal, whose place is the lowest face that offends. A word of another length is not searched, however long.
 fn or_word(above: Refusal, n: usize, word: &[u8]) -> Refusal
-    requires { n ≤ cellsCeiling }
-    ensures { result ≡ orIf above (badWord n word.now) 12 (wordPlace n word.now) }
+    requires { n ≤ cells_ceiling }
+    ensures { result ≡ or_if above (bad_word n word.now) 12 (word_place n word.now) }
 {
     if word.len() == n + 1 {
         let face = first_offence(word);
@@ -65,8 +65,8 @@ fn or_pair_and_word(
     down: u32,
     word: &[u8],
 ) -> Refusal
-    requires { length cells.now ≤ cellsCeiling }
-    ensures { result ≡ judgeBelow above (pairWordChecks road cells.now up down word.now) }
+    requires { length cells.now ≤ cells_ceiling }
+    ensures { result ≡ judge_below above (pair_word_checks road cells.now up down word.now) }
 {
     let pair = checks::or_pair(above, road, cells, up, down);
     or_word(pair, cells.len(), word)
@@ -82,7 +82,7 @@ pub fn judged_with_word(
     word: &[u8],
     bad: bool,
 ) -> Refusal
-    ensures { result ≡ stateWordRefusal road cells.now up down word.now bad }
+    ensures { result ≡ state_word_refusal road cells.now up down word.now bad }
 {
     let shape = checks::judged_shape(road, cells.len(), bad);
     if shape.number != 0 {

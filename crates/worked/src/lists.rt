@@ -1,6 +1,6 @@
 // Lists of one value, as long as the ceilings and one beyond.
 ghost use Rattle.std.specs.Prelude.{◌≡◌, ◌+◌, length};
-ghost use Rattle.road.specs.Ceilings.{cellsCeiling, horizonCeiling};
+ghost use Rattle.road.specs.Ceilings.{cells_ceiling, horizon_ceiling};
 
 use road::Road;
 
@@ -12,28 +12,28 @@ const FACES: usize = CELLS + 1;
 
 // One cell more than the ceiling.
 pub fn cells(density: u32) -> [u32; CELLS]
-    ensures { cellsCeiling + 1 ≡ length result }
+    ensures { cells_ceiling + 1 ≡ length result }
 {
     [density; CELLS]
 }
 
 // One end more than the ceiling.
 pub fn ends(density: u32) -> [u32; ENDS]
-    ensures { horizonCeiling + 1 ≡ length result }
+    ensures { horizon_ceiling + 1 ≡ length result }
 {
     [density; ENDS]
 }
 
 // One letter more than the ceiling of cells has faces.
 pub fn codes() -> [u8; FACES]
-    ensures { cellsCeiling + 2 ≡ length result }
+    ensures { cells_ceiling + 2 ≡ length result }
 {
     [7u8; FACES]
 }
 
 // One cap more than the ceiling of cells has faces.
 pub fn caps(cap: u32) -> [u32; FACES]
-    ensures { cellsCeiling + 2 ≡ length result }
+    ensures { cells_ceiling + 2 ≡ length result }
 {
     [cap; FACES]
 }

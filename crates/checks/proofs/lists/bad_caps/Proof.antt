@@ -12,11 +12,11 @@ use Rattle.checks.proofs.lists.bad_caps.Statement.{statement}
 use Rattle.checks.proofs.lists.bad_caps.Tie as tie
 
 one_less : (cells caps : ℕ) → 0 < caps → eqb (caps - 1) cells ≡ eqb caps (cells + 1)
-one_less cells caps some = by-test (ℕ_discrete caps (cells + 1))
+one_less cells caps some = by_test (ℕ_discrete caps (cells + 1))
   where
-    by-test : Dec (caps ≡ cells + 1) → eqb (caps - 1) cells ≡ eqb caps (cells + 1)
-    by-test (yes e) = eq-eqb (caps - 1) cells (omega arith) ∙ sym (eq-eqb caps (cells + 1) e)
-    by-test (no n) = ne_eqb (caps - 1) cells (λ e. n (omega arith)) ∙ sym (ne_eqb caps (cells + 1) n)
+    by_test : Dec (caps ≡ cells + 1) → eqb (caps - 1) cells ≡ eqb caps (cells + 1)
+    by_test (yes e) = eq-eqb (caps - 1) cells (omega arith) ∙ sym (eq-eqb caps (cells + 1) e)
+    by_test (no n) = ne_eqb (caps - 1) cells (λ e. n (omega arith)) ∙ sym (ne_eqb caps (cells + 1) n)
 
 returns : tie.Need-returns
 returns c = sym (ap not (ne_eqb c.before.args.caps (c.before.args.cells + 1) (λ e. omega (arith, e, c.if1.true))))

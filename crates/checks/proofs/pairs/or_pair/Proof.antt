@@ -3,7 +3,7 @@ use mathlib.Core.Path.{◌∙◌, refl, ap}
 use Prim.Native.Nat.{ℕ, ◌+◌}
 use lib.Dec.{ltb}
 use lib.ListN.{length}
-use Rattle.refusal.proofs.Table.{next-check}
+use Rattle.refusal.proofs.Table.{next_check}
 use Rattle.checks.proofs.Checks.{one_end}
 use borrow.Author.Rules.{rules}
 use Rattle.checks.proofs.pairs.or_pair.Statement.{statement}
@@ -20,7 +20,7 @@ returns c =
     (c.before.or-if2.ensures
     ∙ one_end 10 s.args.road.jam s.args.up
     (c.before.before.or-if.ensures
-    ∙ next-check 9 refl
+    ∙ next_check 9 refl
     (ap (λ (k : ℕ). ltb k (length s.args.cells.now)) cell.first_above.ensures.at)
     (ap (λ (k : ℕ). k + 1) cell.first_above.ensures.at))
     up.is-above.ensures)

@@ -5,7 +5,7 @@ use mathlib.Core.Path.{sym}
 use borrow.Author.Rules.{rules}
 use borrow.Author.Count.{below_more}
 use lib.ListN.{length, get_or}
-use Rattle.checks.proofs.First.{first-is}
+use Rattle.checks.proofs.First.{first_is}
 use Rattle.checks.proofs.values.first_above.Statement.{statement}
 use Rattle.checks.proofs.values.first_above.Tie as tie
 
@@ -20,7 +20,7 @@ returns c =
     let l = c.before.before.before in
     let s = l.before in
     record {
-      at = sym (first-is s.args.jam s.args.xs.now l.loop.i l.loop.invariant.0 l.loop.invariant.1 (λ h. c.if1.true));
+      at = sym (first_is s.args.jam s.args.xs.now l.loop.i l.loop.invariant.0 l.loop.invariant.1 (λ h. c.if1.true));
       inside = l.loop.invariant.0;
     }
 
@@ -32,7 +32,7 @@ returns-2 c =
     let l = c.before in
     let s = l.before in
     record {
-      at = sym (first-is s.args.jam s.args.xs.now l.loop.i l.loop.invariant.0 l.loop.invariant.1 (λ h. absurd (not-le_of_lt h c.loop-test.false)));
+      at = sym (first_is s.args.jam s.args.xs.now l.loop.i l.loop.invariant.0 l.loop.invariant.1 (λ h. absurd (not-le_of_lt h c.loop-test.false)));
       inside = l.loop.invariant.0;
     }
 

@@ -1,5 +1,5 @@
 -- `cli_intake::filled` is safe and ends: every read that goes on brings a byte. Its count is within the buffer.
-use Rattle.printing.proofs.Prefix.{prefix-counts}
+use Rattle.printing.proofs.Prefix.{prefix_counts}
 use mathlib.Core.Path.{◌≡◌}
 use Prim.Native.Nat.{◌-◌, ◌≤◌}
 use lib.ListN.{length}
@@ -17,6 +17,6 @@ pub filled-spec : {M : Type 1} → statement M
 filled-spec =
     tie.close
     (tie.spec invariant-loop decreases-loop (λ c. search rules) (λ c κs. search rules) (λ c κs. search rules)
-    (λ c κs. search rules) (λ c. search rules) (λ c. prefix-counts _ _ (search rules)) (λ c κs. search rules)
+    (λ c κs. search rules) (λ c. search rules) (λ c. prefix_counts _ _ (search rules)) (λ c κs. search rules)
     (λ c. search rules) (λ c. search rules) (λ c κs. search rules) (λ c κs. search rules) (λ c. search rules)
-    (λ c. prefix-counts _ _ (search rules)))
+    (λ c. prefix_counts _ _ (search rules)))

@@ -1,5 +1,5 @@
 -- `cli_request::codes` of the numbers is safe, and counts what its output holds.
-use Rattle.printing.proofs.Prefix.{prefix-counts}
+use Rattle.printing.proofs.Prefix.{prefix_counts}
 use mathlib.Core.Path.{◌≡◌}
 use Prim.Native.Nat.{◌-◌, ◌≤◌}
 use lib.ListN.{length}
@@ -18,4 +18,4 @@ codes-spec =
     tie.close
     (tie.spec invariant-loop decreases-loop (λ c κs. search rules) (λ c κs. search rules) (λ c. search rules) (λ c. search rules)
     (λ c. search rules) (λ c κs. search rules) (λ c. search rules) (λ c. search rules) (λ c. search rules)
-    (λ c. search rules) (λ c. search rules) (λ c. prefix-counts _ _ (search rules)))
+    (λ c. search rules) (λ c. search rules) (λ c. prefix_counts _ _ (search rules)))

@@ -2,7 +2,7 @@
 use mathlib.Core.Path.{sym}
 use borrow.Author.Rules.{rules}
 use lib.Seq.{length-take-le}
-use Rattle.cli_scenario.proofs.Headed.{word-within, head-is}
+use Rattle.cli_scenario.proofs.Headed.{word_within, head_is}
 use Rattle.cli_scenario.proofs.finding.head_of.Statement.{statement}
 use Rattle.cli_scenario.proofs.finding.head_of.Tie as tie
 
@@ -12,13 +12,13 @@ slice-aggregate-first-word c = let p = c.before in sym (length-take-le p.piece-e
 first-key-requires : tie.Need-first-key-requires
 first-key-requires c κs =
     let p = c.before.before in
-    word-within p.before.before.args.line.now p.piece-end.result p.piece-end.ensures c.first_word.result c.first_word.ensures
+    word_within p.before.before.args.line.now p.piece-end.result p.piece-end.ensures c.first_word.result c.first_word.ensures
 
 returns : tie.Need-returns
 returns c =
     let w = c.before in
     let p = w.before.before in
-    head-is p.before.before.args.line.now p.piece-end.result p.piece-end.ensures w.first_word.result w.first_word.ensures
+    head_is p.before.before.args.line.now p.piece-end.result p.piece-end.ensures w.first_word.result w.first_word.ensures
     c.first_key.result c.first_key.ensures
 
 pub head-of-spec : {M : Type 1} → statement M

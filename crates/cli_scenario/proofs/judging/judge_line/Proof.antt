@@ -3,17 +3,17 @@ use Prim.Native.Nat.{◌<◌, ◌+◌}
 use native.Mathlib.Omega.{arith}
 use borrow.Author.Rules.{rules}
 use Rattle.cli_vocabulary.specs.Pieces.{words}
-use Rattle.cli_vocabulary.specs.Keys.{keyCount}
-use Rattle.cli_scenario.proofs.Headed.{head-key, key-small}
-use Rattle.cli_scenario.proofs.Judged.{judged-is}
+use Rattle.cli_vocabulary.specs.Keys.{key_count}
+use Rattle.cli_scenario.proofs.Headed.{head_key, key_small}
+use Rattle.cli_scenario.proofs.Judged.{judged_is}
 use Rattle.cli_scenario.proofs.judging.judge_line.Statement.{statement}
 use Rattle.cli_scenario.proofs.judging.judge_line.Tie as tie
 
 -- the key has a place among those seen
-small : (c : tie.After-head-of) → c.head_of.result.key < keyCount + 2
+small : (c : tie.After-head-of) → c.head_of.result.key < key_count + 2
 small c =
     let line = c.before.before.before.args.line.now in
-    omega (arith, head-key line c.head_of.result c.head_of.ensures, key-small (words line))
+    omega (arith, head_key line c.head_of.result c.head_of.ensures, key_small (words line))
 
 returns : tie.Need-returns
 returns c =
@@ -21,8 +21,8 @@ returns c =
     let h = w.before.before.before in
     let a = h.before.before.before.args in
     let line = a.line.now in
-    judged-is a.t1 line h.before.wrong-line.result h.head_of.result.key w.wrong-after.result h.before.wrong-line.ensures
-    (head-key line h.head_of.result h.head_of.ensures) w.wrong-after.ensures
+    judged_is a.t1 line h.before.wrong-line.result h.head_of.result.key w.wrong-after.result h.before.wrong-line.ensures
+    (head_key line h.head_of.result h.head_of.ensures) w.wrong-after.ensures
 
 pub judge-line-spec : {M : Type 1} → statement M
 judge-line-spec =

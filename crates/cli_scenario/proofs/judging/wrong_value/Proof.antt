@@ -4,14 +4,14 @@ use Prim.Native.Nat.{◌-◌}
 use borrow.Author.Rules.{rules}
 use lib.ListN.{length}
 use Rattle.cli_vocabulary.specs.Pieces.{blank, filled, words_in}
-use Rattle.cli_scenario.specs.Judging.{wrongValue}
+use Rattle.cli_scenario.specs.Judging.{wrong_value}
 use Rattle.cli_scenario.proofs.Cutting.{remaining, none_left}
-use Rattle.cli_scenario.proofs.Folds.{wrong-here, wrong-later}
+use Rattle.cli_scenario.proofs.Folds.{wrong_here, wrong_later}
 use Rattle.cli_scenario.proofs.judging.wrong_value.Statement.{statement}
 use Rattle.cli_scenario.proofs.judging.wrong_value.Tie as tie
 
 abbrev invariant-loop : tie.invariant-loop
-invariant-loop part key at₀ at = wrongValue key (filled (remaining blank at part)) ≡ wrongValue key (words_in part)
+invariant-loop part key at₀ at = wrong_value key (filled (remaining blank at part)) ≡ wrong_value key (words_in part)
 
 abbrev decreases-loop : tie.decreases-loop
 decreases-loop part key at₀ at = length part - at
@@ -26,7 +26,7 @@ returns c =
     let p = o.before.before in
     let l = p.before.before in
     let a = l.before.before.args in
-    sym (wrong-here a.part.now l.loop.at p.piece-end.result p.before.loop-test.true p.piece-end.ensures
+    sym (wrong_here a.part.now l.loop.at p.piece-end.result p.before.loop-test.true p.piece-end.ensures
     a.key o.wrong_word.result o.wrong_word.ensures c.if1.true) ∙ l.loop.invariant
 
 loop-again : tie.Need-loop-preserved invariant-loop decreases-loop
@@ -35,11 +35,11 @@ loop-again c =
     let p = o.before.before in
     let l = p.before.before in
     let a = l.before.before.args in
-    sym (wrong-later a.part.now l.loop.at p.piece-end.result p.before.loop-test.true p.piece-end.ensures
+    sym (wrong_later a.part.now l.loop.at p.piece-end.result p.before.loop-test.true p.piece-end.ensures
     a.key o.wrong_word.result o.wrong_word.ensures c.if1.false) ∙ l.loop.invariant
 
 returns-2 : tie.Need-returns-2 invariant-loop decreases-loop
-unfolding wrongValue filled
+unfolding wrong_value filled
 returns-2 c =
     let l = c.before in
     rw (none_left blank l.before.before.args.part.now l.loop.at c.loop-test.false) at l.loop.invariant

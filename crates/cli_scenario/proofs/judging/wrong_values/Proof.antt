@@ -5,8 +5,8 @@ use Prim.Native.Nat.{ℕ}
 use borrow.Author.Rules.{rules}
 use Rattle.choice.specs.Choice.{pick}
 use Rattle.cli_vocabulary.specs.Pieces.{words_in}
-use Rattle.cli_scenario.specs.Judging.{wrongValue}
-use Rattle.cli_scenario.proofs.Judged.{values-wrong}
+use Rattle.cli_scenario.specs.Judging.{wrong_value}
+use Rattle.cli_scenario.proofs.Judged.{values_wrong}
 use Rattle.cli_scenario.proofs.judging.wrong_values.Statement.{statement}
 use Rattle.cli_scenario.proofs.judging.wrong_values.Tie as tie
 
@@ -15,8 +15,8 @@ returns c =
     let n = c.before in
     let a = n.before.before.before.args in
     let ws = words_in a.part.now in
-    ap (λ (b : Bool). pick {A = ℕ} b 5 (wrongValue a.key ws)) (sym c.if1.true)
-    ∙ values-wrong a.key ws n.before.count-words.result n.before.count-words.ensures n.wrong-number.result n.wrong-number.ensures
+    ap (λ (b : Bool). pick {A = ℕ} b 5 (wrong_value a.key ws)) (sym c.if1.true)
+    ∙ values_wrong a.key ws n.before.count-words.result n.before.count-words.ensures n.wrong-number.result n.wrong-number.ensures
 
 returns-2 : tie.Need-returns-2
 returns-2 c =
@@ -25,8 +25,8 @@ returns-2 c =
     let a = n.before.before.before.args in
     let ws = words_in a.part.now in
     c.wrong-value.ensures
-    ∙ ap (λ (b : Bool). pick {A = ℕ} b 5 (wrongValue a.key ws)) (sym e.if1.false)
-    ∙ values-wrong a.key ws n.before.count-words.result n.before.count-words.ensures n.wrong-number.result n.wrong-number.ensures
+    ∙ ap (λ (b : Bool). pick {A = ℕ} b 5 (wrong_value a.key ws)) (sym e.if1.false)
+    ∙ values_wrong a.key ws n.before.count-words.result n.before.count-words.ensures n.wrong-number.result n.wrong-number.ensures
 
 pub wrong-values-spec : {M : Type 1} → statement M
 wrong-values-spec =

@@ -3,7 +3,7 @@ use borrow.Author.Rules.{rules}
 use native.Mathlib.Omega.{arith}
 use Rattle.cli_scenario.specs.Values.{repeated}
 use Rattle.cli_scenario.proofs.Storing.{ValuesStored, begins, turns, ends, stops, stored_one}
-use Rattle.cli_scenario.proofs.Folds.{repeated-none, repeated-more}
+use Rattle.cli_scenario.proofs.Folds.{repeated_none, repeated_more}
 use Rattle.cli_scenario.proofs.listing.append.Statement.{statement}
 use Rattle.cli_scenario.proofs.listing.append.Tie as tie
 
@@ -20,13 +20,13 @@ loop-again : tie.Need-loop-preserved invariant-loop decreases-loop
 loop-again c =
     let l = c.before.before in
     let value = l.before.args.value in
-    turns l.loop.invariant _ _ _ _ (repeated-more l.loop.left value c.before.loop-test.true)
+    turns l.loop.invariant _ _ _ _ (repeated_more l.loop.left value c.before.loop-test.true)
     (stored_one l.loop.out l.loop.at value c.if1.false)
 
 returns-2 : tie.Need-returns-2 invariant-loop decreases-loop
 returns-2 c =
     let l = c.before in
-    ends l.loop.invariant (repeated-none l.loop.left l.before.args.value c.loop-test.false)
+    ends l.loop.invariant (repeated_none l.loop.left l.before.args.value c.loop-test.false)
 
 pub append-spec : {M : Type 1} → statement M
 append-spec =

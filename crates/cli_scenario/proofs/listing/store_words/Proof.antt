@@ -4,23 +4,23 @@ use Prim.Native.Nat.{◌-◌}
 use borrow.Author.Rules.{rules}
 use lib.ListN.{length}
 use Rattle.cli_vocabulary.specs.Pieces.{blank, filled, words_in}
-use Rattle.cli_scenario.specs.Values.{allValues}
+use Rattle.cli_scenario.specs.Values.{all_values}
 use Rattle.cli_scenario.proofs.Cutting.{remaining, none_left}
 use Rattle.cli_scenario.proofs.Storing.{ValuesStored, begins, turns, ends}
-use Rattle.cli_scenario.proofs.Folds.{values-on}
+use Rattle.cli_scenario.proofs.Folds.{values_on}
 use Rattle.cli_scenario.proofs.listing.store_words.Statement.{statement}
 use Rattle.cli_scenario.proofs.listing.store_words.Tie as tie
 
 abbrev invariant-loop : tie.invariant-loop
 invariant-loop part key start filled₀ filled₁ at₀ out fill at =
-    ValuesStored (allValues key (filled (remaining blank at part))) (allValues key (words_in part)) filled₀ start out fill
+    ValuesStored (all_values key (filled (remaining blank at part))) (all_values key (words_in part)) filled₀ start out fill
 
 abbrev decreases-loop : tie.decreases-loop
 decreases-loop part key start filled₀ filled₁ at₀ out fill at = length part - at
 
 loop-holds : tie.Need-loop-init invariant-loop decreases-loop
 unfolding words_in
-loop-holds c = let s = c.before.before in begins (allValues s.args.key (words_in s.args.part.now)) s.args.out.now s.args.filled s.requires
+loop-holds c = let s = c.before.before in begins (all_values s.args.key (words_in s.args.part.now)) s.args.out.now s.args.filled s.requires
 
 loop-again : tie.Need-loop-preserved invariant-loop decreases-loop
 loop-again c =
@@ -29,11 +29,11 @@ loop-again c =
     let l = p.before.before in
     let a = l.before.before.before.args in
     turns l.loop.invariant _ _ _ _
-    (values-on a.part.now l.loop.at p.piece-end.result p.before.loop-test.true p.piece-end.ensures a.key)
+    (values_on a.part.now l.loop.at p.piece-end.result p.before.loop-test.true p.piece-end.ensures a.key)
     o.Store-word.ensures
 
 returns : tie.Need-returns invariant-loop decreases-loop
-unfolding allValues filled
+unfolding all_values filled
 returns c =
     let l = c.before in
     let a = l.before.before.before.args in

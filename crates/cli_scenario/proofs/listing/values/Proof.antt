@@ -8,7 +8,7 @@ use Rattle.cli_vocabulary.specs.Pieces.{newline}
 use Rattle.cli_scenario.specs.Values.{gathered, values_of}
 use Rattle.cli_scenario.proofs.Cutting.{remaining, none_left}
 use Rattle.cli_scenario.proofs.Storing.{ValuesStored, begins, turns, ends}
-use Rattle.cli_scenario.proofs.Folds.{given-on}
+use Rattle.cli_scenario.proofs.Folds.{given_on}
 use Rattle.cli_scenario.proofs.listing.values.Statement.{statement}
 use Rattle.cli_scenario.proofs.listing.values.Tie as tie
 
@@ -29,7 +29,7 @@ loop-again c =
     let l = p.before.before in
     let a = l.before.before.before.args in
     turns l.loop.invariant _ _ _ _
-    (given-on a.text.now l.loop.at p.piece-end.result p.before.loop-test.true p.piece-end.ensures a.key)
+    (given_on a.text.now l.loop.at p.piece-end.result p.before.loop-test.true p.piece-end.ensures a.key)
     o.Store-Line.ensures
 
 returns : tie.Need-returns invariant-loop decreases-loop

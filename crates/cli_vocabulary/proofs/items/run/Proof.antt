@@ -2,7 +2,7 @@
 use mathlib.Core.Path.{sym}
 use native.Mathlib.Omega.{arith}
 use lib.Seq.{length-take-le}
-use Rattle.cli_vocabulary.proofs.Runs.{counted, without-caret}
+use Rattle.cli_vocabulary.proofs.Runs.{counted, without_caret}
 use borrow.Author.Rules.{rules}
 use Rattle.cli_vocabulary.proofs.items.run.Statement.{statement}
 use Rattle.cli_vocabulary.proofs.items.run.Tie as tie
@@ -26,7 +26,7 @@ returns-2 : tie.Need-returns-2
 returns-2 c =
     let e = c.before.before in
     let s = e.before.before in
-    without-caret s.args.key s.args.word.now e.piece-end.result e.piece-end.ensures c.single.result c.before.if1.false c.single.ensures
+    without_caret s.args.key s.args.word.now e.piece-end.result e.piece-end.ensures c.single.result c.before.if1.false c.single.ensures
 
 pub run_spec : {M : Type 1} → statement M
 run_spec =

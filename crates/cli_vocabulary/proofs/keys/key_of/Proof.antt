@@ -1,7 +1,7 @@
 -- `cli_vocabulary::key_of` meets its contract: the constant's rows are the definition's, and past the last there is no key.
 use Prim.Native.Nat.{◌<◌}
 use Rattle.cli_vocabulary.specs.Ascii.{ascii}
-use Rattle.cli_vocabulary.specs.Keys.{table, keyRow}
+use Rattle.cli_vocabulary.specs.Keys.{table, key_row}
 use Rattle.cli_vocabulary.proofs.KeyTable.{told_at, no_key}
 use borrow.Author.Rules.{rules}
 use Rattle.cli_vocabulary.proofs.keys.key_of.Statement.{statement}
@@ -12,7 +12,7 @@ unfolding ascii
 returns c = no_key c.before.args.code c.if1.true
 
 returns-2 : tie.Need-returns-2
-unfolding table keyRow ascii
+unfolding table key_row ascii
 returns-2 c =
     let h : c.before.before.before.args.code < 26 = search rules in
     told_at table _ _ h

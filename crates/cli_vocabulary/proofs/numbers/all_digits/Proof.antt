@@ -4,13 +4,13 @@ use mathlib.Core.Path.{◌∙◌, sym, ap}
 use mathlib.Core.Bool.{not}
 use lib.ListN.{length}
 use Rattle.cli_vocabulary.proofs.Search.{until, PlaceSought, found, turns, ends}
-use Rattle.cli_vocabulary.proofs.Decimal.{noDigit, to-other, other-found, none_found}
+use Rattle.cli_vocabulary.proofs.Decimal.{no_digit, to_other, other_found, none_found}
 use borrow.Author.Rules.{rules}
 use Rattle.cli_vocabulary.proofs.numbers.all_digits.Statement.{statement}
 use Rattle.cli_vocabulary.proofs.numbers.all_digits.Tie as tie
 
 abbrev invariant-loop : tie.invariant-loop
-invariant-loop word i₀ i = PlaceSought noDigit word (until noDigit word) i
+invariant-loop word i₀ i = PlaceSought no_digit word (until no_digit word) i
 
 abbrev decreases-loop : tie.decreases-loop
 decreases-loop word i₀ i = length word - i
@@ -19,7 +19,7 @@ returns : tie.Need-returns invariant-loop decreases-loop
 returns c =
     let l = c.before.before.before.before in
     let h = c.before.before.before.loop-test.true in
-    other-found l.before.before.args.word.now l.loop.i (found _ 0 _ _ l.loop.i l.loop.invariant h (ap not (sym c.before.is_digit.ensures) ∙ c.if1.true)) h
+    other_found l.before.before.args.word.now l.loop.i (found _ 0 _ _ l.loop.i l.loop.invariant h (ap not (sym c.before.is_digit.ensures) ∙ c.if1.true)) h
 
 loop-again : tie.Need-loop-preserved invariant-loop decreases-loop
 loop-again c =
@@ -35,5 +35,5 @@ returns-2 c =
 pub all-digits-spec : {M : Type 1} → statement M
 all-digits-spec =
     tie.close
-    (tie.spec invariant-loop decreases-loop (λ c. to-other c.before.args.word.now) (λ c. search rules)
+    (tie.spec invariant-loop decreases-loop (λ c. to_other c.before.args.word.now) (λ c. search rules)
     (λ c κs. search rules) returns (λ c. search rules) (λ c. search rules) loop-again returns-2)

@@ -1,12 +1,12 @@
 -- `cli_vocabulary::first_word` meets its contract: past the blanks, and on to the next.
 use native.Mathlib.Omega.{arith}
-use Rattle.cli_vocabulary.proofs.Marks.{leading-bound, word_at}
+use Rattle.cli_vocabulary.proofs.Marks.{leading_bound, word_at}
 use borrow.Author.Rules.{rules}
 use Rattle.cli_vocabulary.proofs.pieces.first_word.Statement.{statement}
 use Rattle.cli_vocabulary.proofs.pieces.first_word.Tie as tie
 
 piece-end-requires : tie.Need-piece-end-requires
-piece-end-requires c κs = omega (arith, leading-bound c.before.before.args.text.now, c.leading.ensures)
+piece-end-requires c κs = omega (arith, leading_bound c.before.before.args.text.now, c.leading.ensures)
 
 returns : tie.Need-returns
 returns c =

@@ -2,7 +2,7 @@
 use Prim.Native.Nat.{◌+◌, ◌-◌, ◌≤◌}
 use native.Mathlib.Omega.{arith}
 use borrow.Author.Rules.{rules}
-use Rattle.counting.proofs.Turning.{Turning, begins, turns, ends, sum-small}
+use Rattle.counting.proofs.Turning.{Turning, begins, turns, ends, sum_small}
 use Rattle.counting.proofs.counting.counted.Statement.{statement}
 use Rattle.counting.proofs.counting.counted.Tie as tie
 
@@ -14,7 +14,7 @@ decreases-loop cells w₀ l₀ d₀ turn₀ w l d turn = cells - turn
 
 -- each sum of a turn is part of w + l + d, or that sum itself
 small : (c : tie.At-loop invariant-loop decreases-loop) → c.loop.w + c.loop.l + c.loop.d ≤ 368206551266960
-small c = sum-small c.before.args.cells c.loop.w c.loop.l c.loop.d c.loop.turn c.loop.invariant c.before.requires
+small c = sum_small c.before.args.cells c.loop.w c.loop.l c.loop.d c.loop.turn c.loop.invariant c.before.requires
 
 loop-again : tie.Need-loop-preserved invariant-loop decreases-loop
 loop-again c =

@@ -3,7 +3,7 @@ use mathlib.Core.Path.{ap}
 use Prim.Native.Nat.{ℕ, ◌-◌, ◌*◌}
 use native.Mathlib.Nat.{sub-le}
 use Rattle.flux.specs.Face.{receiving}
-use Rattle.flux.proofs.Sizes.{product-fits}
+use Rattle.flux.proofs.Sizes.{product_fits}
 use borrow.Author.Rules.{rules}
 use Rattle.flux.proofs.face.receiving.Statement.{statement}
 use Rattle.flux.proofs.face.receiving.Tie as tie
@@ -11,7 +11,7 @@ use Rattle.flux.proofs.face.receiving.Tie as tie
 mul-result : tie.Need-overflow-mul-result
 mul-result c =
     let s = c.before.before.before in
-    product-fits s.requires.0 s.args.r.wave (s.args.r.jam - c.before.before.greater.result) s.requires.0.wave-high
+    product_fits s.requires.0 s.args.r.wave (s.args.r.jam - c.before.before.greater.result) s.requires.0.wave_high
     (sub-le s.args.r.jam c.before.before.greater.result)
 
 returns : tie.Need-returns

@@ -3,7 +3,7 @@ use mathlib.Core.Path.{ap}
 use Prim.Native.Nat.{ℕ, ◌*◌}
 use native.Mathlib.Omega.{arith}
 use Rattle.flux.specs.Face.{sending}
-use Rattle.flux.proofs.Sizes.{product-fits}
+use Rattle.flux.proofs.Sizes.{product_fits}
 use borrow.Author.Rules.{rules}
 use Rattle.flux.proofs.face.sending.Statement.{statement}
 use Rattle.flux.proofs.face.sending.Tie as tie
@@ -12,8 +12,8 @@ mul-result : tie.Need-overflow-mul-result
 mul-result c =
     let s = c.before.before in
     let cut = c.before.smaller.ensures in
-    product-fits s.requires s.args.r.free c.before.smaller.result s.requires.free-high
-    (let high = s.requires.critical-high in omega arith)
+    product_fits s.requires s.args.r.free c.before.smaller.result s.requires.free_high
+    (let high = s.requires.critical_high in omega arith)
 
 returns : tie.Need-returns
 unfolding sending

@@ -3,7 +3,7 @@ use mathlib.Core.Path.{refl}
 use native.Mathlib.Nat.{lt_of_le_of_lt, mul-le-mul_left}
 use native.Mathlib.Omega.{arith}
 use Rattle.flux.specs.Face.{units}
-use Rattle.flux.proofs.Rounding.{units-at-most}
+use Rattle.flux.proofs.Rounding.{units_at_most}
 use borrow.Author.Rules.{rules}
 use Rattle.flux.proofs.face.units.Statement.{statement}
 use Rattle.flux.proofs.face.units.Tie as tie
@@ -13,7 +13,7 @@ unfolding units
 cast-result c =
     let s = c.before in
     let whole = mul-le-mul_left s.args.f s.requires in
-    record { fits = lt_of_le_of_lt (units-at-most s.args.r s.requires s.args.f s.args.f (omega arith)) (search rules) }
+    record { fits = lt_of_le_of_lt (units_at_most s.args.r s.requires s.args.f s.args.f (omega arith)) (search rules) }
 
 returns : tie.Need-returns
 unfolding units

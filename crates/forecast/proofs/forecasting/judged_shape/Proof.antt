@@ -1,14 +1,14 @@
 -- `forecast::judged_shape` meets its contract: below the road's checks, check by check.
 use mathlib.Core.Path.{◌∙◌}
-use Rattle.road.specs.Judgement.{roadRefusal}
-use Rattle.refusal.proofs.Table.{next-at-0}
-use Rattle.forecast.specs.Forecast.{shapeRefusal}
+use Rattle.road.specs.Judgement.{road_refusal}
+use Rattle.refusal.proofs.Table.{next_at_0}
+use Rattle.forecast.specs.Forecast.{shape_refusal}
 use borrow.Author.Rules.{rules}
 use Rattle.forecast.proofs.forecasting.judged_shape.Statement.{statement}
 use Rattle.forecast.proofs.forecasting.judged_shape.Tie as tie
 
 returns : tie.Need-returns
-unfolding shapeRefusal roadRefusal
+unfolding shape_refusal road_refusal
 returns c =
     let judged = c.before.before.before.before.before in
     let caps = judged.before in
@@ -16,11 +16,11 @@ returns c =
     let ends = output.before in
     let horizon = ends.before in
     let cells = horizon.before in
-    c.or-if5.ensures ∙ next-at-0 20
-    (c.before.or-if4.ensures ∙ next-at-0 8
-    (c.before.before.or-if3.ensures ∙ next-at-0 7
-    (c.before.before.before.or-if2.ensures ∙ next-at-0 6
-    (c.before.before.before.before.or-if.ensures ∙ next-at-0 5 judged.judged.ensures cells.bad-cells.ensures)
+    c.or-if5.ensures ∙ next_at_0 20
+    (c.before.or-if4.ensures ∙ next_at_0 8
+    (c.before.before.or-if3.ensures ∙ next_at_0 7
+    (c.before.before.before.or-if2.ensures ∙ next_at_0 6
+    (c.before.before.before.before.or-if.ensures ∙ next_at_0 5 judged.judged.ensures cells.bad-cells.ensures)
     horizon.bad-horizon.ensures) ends.bad-ends.ensures) output.bad-output.ensures) caps.bad-caps.ensures
 
 pub judged-shape-spec : {M : Type 1} → statement M

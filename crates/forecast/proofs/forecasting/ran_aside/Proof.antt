@@ -3,17 +3,17 @@ use mathlib.Core.Path.{◌≡◌, ◌∙◌, sym, ap}
 use lib.ListN.{length}
 use borrow.Author.Rules.{rules}
 use Rattle.choice.specs.Choice.{or}
-use Rattle.scheme.proofs.Promises.{roundRun-length, round-range}
-use Rattle.forecast.specs.Forecast.{totalCheck, Fits}
-use Rattle.forecast.proofs.Checked.{with-output, fits_by}
-use Rattle.forecast.proofs.Answers.{total-refused, forecast-done}
-use Rattle.forecast.proofs.Calling.{in-range}
+use Rattle.scheme.proofs.Promises.{round_run_length, round_range}
+use Rattle.forecast.specs.Forecast.{total_check, Fits}
+use Rattle.forecast.proofs.Checked.{with_output, fits_by}
+use Rattle.forecast.proofs.Answers.{total_refused, forecast_done}
+use Rattle.forecast.proofs.Calling.{in_range}
 use Rattle.forecast.proofs.forecasting.ran_aside.Statement.{statement}
 use Rattle.forecast.proofs.forecasting.ran_aside.Tie as tie
 
 -- what is tested is 19's condition
 tested : (c : tie.After-either) → let ran = c.before.before.before.before.before in let s = ran.before.before.before.before.before.before.before.before in
-    c.either.result ≡ (totalCheck s.args.totals ran.ran.result).condition
+    c.either.result ≡ (total_check s.args.totals ran.ran.result).condition
 tested c = c.either.ensures ∙ λ i. or (c.before.before.would-pass.ensures i) (c.before.would-pass2.ensures i)
 
 returns : tie.Need-returns
@@ -21,13 +21,13 @@ returns c =
     let e = c.before in
     let ran = e.before.before.before.before.before in
     let s = ran.before.before.before.before.before.before.before.before in
-    total-refused s.args.road s.args.caps.now s.args.cells.now s.args.upstream.now s.args.downstream.now (length s.args.upstream.now) s.args.out.now s.args.totals
+    total_refused s.args.road s.args.caps.now s.args.cells.now s.args.upstream.now s.args.downstream.now (length s.args.upstream.now) s.args.out.now s.args.totals
     s.requires.0 ran.ran.ensures (tested e) c.if1.true
 
 ran-requires : tie.Need-ran-requires
 ran-requires c κs =
     let s = c.before.before.before.before.before.before.before in
-    with-output s.args.road s.args.caps.now s.args.cells.now s.args.upstream.now s.args.downstream.now (length s.args.upstream.now) (length s.args.out.now)
+    with_output s.args.road s.args.caps.now s.args.cells.now s.args.upstream.now s.args.downstream.now (length s.args.upstream.now) (length s.args.out.now)
     s.requires.0 (length s.args.work.now) s.requires.1
 
 -- past 19 both sums fit
@@ -43,9 +43,9 @@ copy-requires c κs =
     let ran = c.before.before.before.before.before.before.before.before in
     let s = ran.before.before.before.before.before.before.before.before in
     let ok = s.requires.0 in (
-      in-range ran.ran.new.1.1.1.1.1.0 ok.accepted
-          (rw ran.ran.ensures.cells (round-range s.args.road s.args.caps.now ok.accepted s.args.upstream.now s.args.downstream.now s.args.cells.now ok.cells-below)),
-      ok.output-long ∙ sym (ap length ran.ran.ensures.cells ∙ roundRun-length s.args.road s.args.caps.now s.args.upstream.now s.args.downstream.now s.args.cells.now),
+      in_range ran.ran.new.1.1.1.1.1.0 ok.accepted
+          (rw ran.ran.ensures.cells (round_range s.args.road s.args.caps.now ok.accepted s.args.upstream.now s.args.downstream.now s.args.cells.now ok.cells_below)),
+      ok.output_long ∙ sym (ap length ran.ran.ensures.cells ∙ round_run_length s.args.road s.args.caps.now s.args.upstream.now s.args.downstream.now s.args.cells.now),
     )
 
 returns-2 : tie.Need-returns-2
@@ -54,7 +54,7 @@ returns-2 c =
     let go = copied.before.before.before in
     let ran = go.before.before.before.before.before.before in
     let s = ran.before.before.before.before.before.before.before.before in
-    rw (copied.copy.ensures, c.carried.ensures) (forecast-done s.args.road s.args.caps.now s.args.cells.now s.args.upstream.now s.args.downstream.now (length s.args.upstream.now) s.args.out.now s.args.totals
+    rw (copied.copy.ensures, c.carried.ensures) (forecast_done s.args.road s.args.caps.now s.args.cells.now s.args.upstream.now s.args.downstream.now (length s.args.upstream.now) s.args.out.now s.args.totals
     s.requires.0 ran.ran.ensures (fits go))
 
 pub ran-aside-spec : {M : Type 1} → statement M

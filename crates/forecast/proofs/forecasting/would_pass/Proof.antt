@@ -6,11 +6,11 @@ use native.Mathlib.Omega.{arith}
 use lib.Dec.{ltb}
 use borrow.Author.Rules.{rules}
 use borrow.Author.Tests.{lt-ltb, le-ltb}
-use Rattle.forecast.specs.Forecast.{largest, passesLargest}
+use Rattle.forecast.specs.Forecast.{largest, passes_largest}
 use Rattle.forecast.proofs.forecasting.would_pass.Statement.{statement}
 use Rattle.forecast.proofs.forecasting.would_pass.Tie as tie
 
-room-and-sum : (total own : ℕ) → total ≤ largest → ltb (largest - total) own ≡ passesLargest total own
+room-and-sum : (total own : ℕ) → total ≤ largest → ltb (largest - total) own ≡ passes_largest total own
 room-and-sum total own fits = by (dec_le (total + own) largest)
   where
     by : Dec (total + own ≤ largest) → ltb (largest - total) own ≡ ltb largest (total + own)

@@ -3,7 +3,7 @@ use Prim.Native.Nat.{◌-◌}
 use native.Mathlib.Omega.{arith}
 use borrow.Author.Rules.{rules}
 use lib.ListN.{length}
-use Rattle.modes.proofs.Misfits.{WordCompared, begins, differs, turns, ends-off, ends_on}
+use Rattle.modes.proofs.Misfits.{WordCompared, begins, differs, turns, ends_off, ends_on}
 use Rattle.modes.proofs.fitting.first_misfit.Statement.{statement}
 use Rattle.modes.proofs.fitting.first_misfit.Tie as tie
 
@@ -16,18 +16,18 @@ decreases-loop road cells up down word left₀ i₀ left i = length cells - i
 loop-holds : tie.Need-loop-init invariant-loop decreases-loop
 loop-holds c =
     let s = c.before.before in
-    begins s.args.road s.args.up s.args.down s.args.cells.now s.args.word.now s.requires.word-long s.requires.state.up-below
+    begins s.args.road s.args.up s.args.down s.args.cells.now s.args.word.now s.requires.word_long s.requires.state.up_below
 
 letter-requires : tie.Need-letter-requires invariant-loop decreases-loop
 letter-requires c κs =
     let l = c.before.before in
     let s = l.before.before.before in
-    (s.requires.state.accepted, (l.loop.invariant.below, s.requires.state.cells-below l.loop.i))
+    (s.requires.state.accepted, (l.loop.invariant.below, s.requires.state.cells_below l.loop.i))
 
 shared-slice-read-if1 : tie.Need-shared-slice-read-if1 invariant-loop decreases-loop
 shared-slice-read-if1 c =
     let test = c.before.before.before in
-    let long = test.before.before.before.before.requires.word-long in
+    let long = test.before.before.before.before.requires.word_long in
     omega (arith, test.loop-test.true)
 
 returns : tie.Need-returns invariant-loop decreases-loop
@@ -36,7 +36,7 @@ returns c =
     let test = f.before.before in
     let l = test.before in
     let s = l.before.before.before in
-    differs s.args.road s.args.up s.args.down s.args.cells.now s.args.word.now s.requires.word-long
+    differs s.args.road s.args.up s.args.down s.args.cells.now s.args.word.now s.requires.word_long
     l.loop.left l.loop.i l.loop.invariant f.letter.result test.loop-test.true f.letter.ensures c.if1.true
 
 loop-again : tie.Need-loop-preserved invariant-loop decreases-loop
@@ -45,19 +45,19 @@ loop-again c =
     let test = f.before.before in
     let l = test.before in
     let s = l.before.before.before in
-    turns s.args.road s.args.up s.args.down s.args.cells.now s.args.word.now s.requires.word-long
-    l.loop.left l.loop.i l.loop.invariant f.letter.result test.loop-test.true f.letter.ensures s.requires.state.cells-below c.if1.false
+    turns s.args.road s.args.up s.args.down s.args.cells.now s.args.word.now s.requires.word_long
+    l.loop.left l.loop.i l.loop.invariant f.letter.result test.loop-test.true f.letter.ensures s.requires.state.cells_below c.if1.false
 
 letter-requires-2 : tie.Need-letter-requires-2 invariant-loop decreases-loop
 letter-requires-2 c κs =
     let l = c.before in
     let s = l.before.before.before in
-    (s.requires.state.accepted, (l.loop.invariant.below, s.requires.state.down-below))
+    (s.requires.state.accepted, (l.loop.invariant.below, s.requires.state.down_below))
 
 shared-slice-read-if2 : tie.Need-shared-slice-read-if2 invariant-loop decreases-loop
 shared-slice-read-if2 c =
     let l = c.before.before.before in
-    let long = l.before.before.before.requires.word-long in
+    let long = l.before.before.before.requires.word_long in
     let within = l.loop.invariant.inside in
     omega arith
 
@@ -66,13 +66,13 @@ returns-2 c =
     let f = c.before.before in
     let l = f.before.before in
     let s = l.before.before.before in
-    ends-off s.args.road s.args.up s.args.down s.args.cells.now s.args.word.now s.requires.word-long
+    ends_off s.args.road s.args.up s.args.down s.args.cells.now s.args.word.now s.requires.word_long
     l.loop.left l.loop.i l.loop.invariant f.letter2.result f.before.loop-test.false f.letter2.ensures c.if2.true
 
 add-result : tie.Need-overflow-add-result invariant-loop decreases-loop
 add-result c =
     let l = c.before.before.before.before in
-    let few = l.before.before.before.requires.state.cells-high in
+    let few = l.before.before.before.requires.state.cells_high in
     let within = l.loop.invariant.inside in
     omega arith
 
@@ -81,7 +81,7 @@ returns-3 c =
     let f = c.before.before in
     let l = f.before.before in
     let s = l.before.before.before in
-    ends_on s.args.road s.args.up s.args.down s.args.cells.now s.args.word.now s.requires.word-long
+    ends_on s.args.road s.args.up s.args.down s.args.cells.now s.args.word.now s.requires.word_long
     l.loop.left l.loop.i l.loop.invariant f.letter2.result f.before.loop-test.false f.letter2.ensures c.if2.false
 
 pub first-misfit-spec : {M : Type 1} → statement M

@@ -2,8 +2,8 @@
 use mathlib.Core.Path.{◌≡◌}
 use Rattle.refusal.proofs.Parts.{same_number}
 use Rattle.refusal.proofs.Calls.{checked}
-use Rattle.modes.specs.Judging.{fitRefusal}
-use Rattle.modes.proofs.FitAnswers.{fit-call, refused, done}
+use Rattle.modes.specs.Judging.{fit_refusal}
+use Rattle.modes.proofs.FitAnswers.{fit_call, refused, done}
 use borrow.Author.Rules.{rules}
 use Rattle.modes.proofs.fitting.fit.Statement.{statement}
 use Rattle.modes.proofs.fitting.fit.Tie as tie
@@ -16,13 +16,13 @@ returns c =
     j.judged.result j.judged.ensures c.if1.true
 
 -- past the branch nothing is refused
-nothing : (c : tie.Else1) → let s = c.before.before.before.before.before in (fitRefusal s.args.road s.args.cells.now s.args.up s.args.down s.args.word.now).number ≡ 0
+nothing : (c : tie.Else1) → let s = c.before.before.before.before.before in (fit_refusal s.args.road s.args.cells.now s.args.up s.args.down s.args.word.now).number ≡ 0
 nothing c = same_number c.before.before.judged.ensures c.if1.false
 
 compared-requires : tie.Need-compared-requires
 compared-requires c κs =
     let s = c.before.before.before.before.before in
-    checked (fit-call s.args.road s.args.cells.now s.args.up s.args.down s.args.word.now) (nothing c)
+    checked (fit_call s.args.road s.args.cells.now s.args.up s.args.down s.args.word.now) (nothing c)
 
 returns-2 : tie.Need-returns-2
 returns-2 c =

@@ -2,8 +2,8 @@
 use mathlib.Core.Path.{◌≡◌}
 use lib.ListN.{length}
 use Rattle.refusal.proofs.Parts.{same_number}
-use Rattle.modes.specs.Judging.{readRefusal}
-use Rattle.modes.proofs.ReadAnswers.{refused, checked, word-long, few-modes, done}
+use Rattle.modes.specs.Judging.{read_refusal}
+use Rattle.modes.proofs.ReadAnswers.{refused, checked, word_long, few_modes, done}
 use borrow.Author.Rules.{rules}
 use Rattle.modes.proofs.reading.read.Statement.{statement}
 use Rattle.modes.proofs.reading.read.Tie as tie
@@ -17,7 +17,7 @@ returns c =
 
 -- past the branch nothing is refused
 nothing : (c : tie.Else1) → let s = c.before.before.before.before.before.before in
-    (readRefusal s.args.road s.args.cells.now s.args.up s.args.down (length s.args.letters.now) (length s.args.modes.now)).number ≡ 0
+    (read_refusal s.args.road s.args.cells.now s.args.up s.args.down (length s.args.letters.now) (length s.args.modes.now)).number ≡ 0
 nothing c = same_number c.before.before.judged.ensures c.if1.false
 
 write-letters-requires : tie.Need-write-letters-requires
@@ -25,14 +25,14 @@ write-letters-requires c κs =
     let go = c.before in
     let s = go.before.before.before.before.before.before in
     let k = checked s.args.road s.args.cells.now s.args.up s.args.down s.args.letters.now s.args.modes.now (nothing go) in
-    (k.state.accepted, (k.state.cells-below, (k.state.up-below, (k.state.down-below, k.letters-long))))
+    (k.state.accepted, (k.state.cells_below, (k.state.up_below, (k.state.down_below, k.letters_long))))
 
 write-modes-requires : tie.Need-write-modes-requires
 write-modes-requires c κs =
     let lettered = c.before.before.before.before in
     let go = lettered.before.before in
     let s = go.before.before.before.before.before.before in
-    word-long s.args.road s.args.cells.now s.args.up s.args.down s.args.letters.now s.args.modes.now (nothing go)
+    word_long s.args.road s.args.cells.now s.args.up s.args.down s.args.letters.now s.args.modes.now (nothing go)
     lettered.write-letters.new.1.1.1.1.0 lettered.write-letters.ensures
 
 tally-requires : tie.Need-tally-requires
@@ -41,7 +41,7 @@ tally-requires c κs =
     let lettered = moded.before.before.before.before.before in
     let go = lettered.before.before in
     let s = go.before.before.before.before.before.before in
-    few-modes s.args.road s.args.cells.now s.args.up s.args.down s.args.letters.now s.args.modes.now (nothing go)
+    few_modes s.args.road s.args.cells.now s.args.up s.args.down s.args.letters.now s.args.modes.now (nothing go)
     lettered.write-letters.new.1.1.1.1.0 lettered.write-letters.ensures
     moded.write-modes.new.1.0 moded.write-modes.ensures
 
@@ -49,7 +49,7 @@ queued-requires : tie.Need-queued-requires
 queued-requires c κs =
     let go = c.before.before.before.before.before.before.before.before.before.before.before in
     let s = go.before.before.before.before.before.before in
-    (checked s.args.road s.args.cells.now s.args.up s.args.down s.args.letters.now s.args.modes.now (nothing go)).state.cells-high
+    (checked s.args.road s.args.cells.now s.args.up s.args.down s.args.letters.now s.args.modes.now (nothing go)).state.cells_high
 
 returns-2 : tie.Need-returns-2
 returns-2 c =

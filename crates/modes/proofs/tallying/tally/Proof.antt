@@ -1,12 +1,12 @@
 -- `modes::tally` meets its contract, count by count.
 use mathlib.Core.List.{[], ◌∷◌}
 use borrow.Author.Rules.{rules}
-use Rattle.modes.specs.Reading.{countsOf}
+use Rattle.modes.specs.Reading.{counts_of}
 use Rattle.modes.proofs.tallying.tally.Statement.{statement}
 use Rattle.modes.proofs.tallying.tally.Tie as tie
 
 returns : tie.Need-returns
-unfolding countsOf
+unfolding counts_of
 returns c =
     let c4 = c.before.before.before in
     let c1 = c4.before.before.before in

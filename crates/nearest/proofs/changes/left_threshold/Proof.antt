@@ -3,14 +3,14 @@ use mathlib.Core.Path.{ap, sym, subst}
 use Prim.Native.Nat.{ℕ, ◌+◌, ◌-◌, ◌/◌, ◌≤◌}
 use mir.Syntax.{w32}
 use mir.Val.{Fits}
-use Rattle.flux.specs.Thresholds.{leftThreshold}
-use Rattle.flux.proofs.Thresholds.{sum_fits, needed-within}
+use Rattle.flux.specs.Thresholds.{left_threshold}
+use Rattle.flux.proofs.Thresholds.{sum_fits, needed_within}
 use borrow.Author.Rules.{rules}
 use Rattle.nearest.proofs.changes.left_threshold.Statement.{statement}
 use Rattle.nearest.proofs.changes.left_threshold.Tie as tie
 
 returns : tie.Need-returns
-unfolding leftThreshold
+unfolding left_threshold
 returns c =
     let r = c.before.before.before.before.args.road in
     ap (λ (sent : ℕ). r.jam - (sent + (r.wave - 1)) / r.wave) c.before.before.before.sending.ensures
@@ -24,7 +24,7 @@ sub-result-2 : tie.Need-overflow-sub-result-2
 sub-result-2 c =
     let s = c.before.before.before.before in
     subst (λ (sent : ℕ). (sent + (s.args.road.wave - 1)) / s.args.road.wave ≤ s.args.road.jam) (sym c.before.before.before.sending.ensures)
-    (needed-within s.args.road s.requires s.args.a)
+    (needed_within s.args.road s.requires s.args.a)
 
 pub left-threshold-spec : {M : Type 1} → statement M
 left-threshold-spec = tie.close (tie.spec (λ c κs. search rules) (λ c. search rules) add-result (λ c. search rules) sub-result-2 returns)

@@ -3,7 +3,7 @@ use native.Mathlib.Nat.{le_trans, mul-le-mul, lt_of_le_of_lt}
 use mathlib.Core.Path.{refl}
 use lib.Dec.{lit<, lit≤}
 use Prim.Native.Nat.{◌*◌, ◌≤◌}
-use Rattle.rows.proofs.Sizes.{largest, fits, pos-exact-in-i64}
+use Rattle.rows.proofs.Sizes.{largest, fits, pos_exact_in_i64}
 use Rattle.rows.proofs.numerators.product.Statement.{statement}
 use Rattle.rows.proofs.numerators.product.Tie as tie
 
@@ -14,4 +14,4 @@ pub product-spec : {M : Type 1} → statement M
 product-spec =
     tie.close
     (tie.spec (λ c. record { fits = lt_of_le_of_lt (small c) (lit< tt) }) (λ c. fits refl (small c))
-    (λ c. pos-exact-in-i64 (c.args.speed * c.args.density) (small c)))
+    (λ c. pos_exact_in_i64 (c.args.speed * c.args.density) (small c)))

@@ -1,12 +1,12 @@
 -- `rows::rows_of` meets its contract: a row for each mode.
 use mathlib.Core.List.{[], ◌∷◌}
-use Rattle.rows.specs.Coefficients.{wholeRows}
+use Rattle.rows.specs.Coefficients.{whole_rows}
 use borrow.Author.Rules.{rules}
 use Rattle.rows.proofs.numerators.rows_of.Statement.{statement}
 use Rattle.rows.proofs.numerators.rows_of.Tie as tie
 
 returns : tie.Need-returns
-unfolding wholeRows
+unfolding whole_rows
 returns c =
     let o₆ = c.before in
     let o₅ = o₆.before in

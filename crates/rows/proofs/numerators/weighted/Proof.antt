@@ -9,8 +9,8 @@ use mir.Facts.{to_z-of_z}
 use mir.Syntax.{w64}
 use mir.Val.{to_z, of_z}
 use Rattle.rows.specs.Rows.{row_of}
-use Rattle.rows.proofs.Table.{entry-small}
-use Rattle.rows.proofs.Sizes.{largest, fits, exact-in-i64, entry-times}
+use Rattle.rows.proofs.Table.{entry_small}
+use Rattle.rows.proofs.Sizes.{largest, fits, exact_in_i64, entry_times}
 use borrow.Author.Rules.{rules}
 use Rattle.rows.proofs.numerators.weighted.Statement.{statement}
 use Rattle.rows.proofs.numerators.weighted.Tie as tie
@@ -23,7 +23,7 @@ factors c =
     let s = c.before in
     let p = s.requires in
     ap₂ ◌*ℤ◌
-    (exact-in-i64 c.multiplier.ensures (le_trans (entry-small s.args.mode s.args.column p.0 p.1.0 p.1.1.0) (lit≤ tt)))
+    (exact_in_i64 c.multiplier.ensures (le_trans (entry_small s.args.mode s.args.column p.0 p.1.0 p.1.1.0) (lit≤ tt)))
     (to_z-of_z s.ranges.term)
 
 small : (c : tie.After-multiplier) → let s = c.before in
@@ -31,9 +31,9 @@ small : (c : tie.After-multiplier) → let s = c.before in
 small c =
     let s = c.before in
     let p = s.requires in
-    le_trans (entry-times s.args.mode s.args.column p.0 p.1.0 p.1.1.0 s.args.term) (le_trans p.1.1.1 (lit≤ tt))
+    le_trans (entry_times s.args.mode s.args.column p.0 p.1.0 p.1.1.0 s.args.term) (le_trans p.1.1.1 (lit≤ tt))
 
 pub weighted-spec : {M : Type 1} → statement M
 weighted-spec =
     tie.close
-    (tie.spec (λ c κs. search rules) (λ c. fits (factors c) (small c)) (λ c. exact-in-i64 (factors c) (small c)))
+    (tie.spec (λ c κs. search rules) (λ c. fits (factors c) (small c)) (λ c. exact_in_i64 (factors c) (small c)))

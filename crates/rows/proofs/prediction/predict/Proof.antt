@@ -3,8 +3,8 @@ use mathlib.Core.Path.{◌≡◌}
 use lib.ListN.{length}
 use Rattle.refusal.proofs.Parts.{same_number}
 use Rattle.refusal.proofs.Calls.{checked}
-use Rattle.rows.specs.Judging.{predictRefusal}
-use Rattle.rows.proofs.PredictAnswers.{predict-call, refused, done}
+use Rattle.rows.specs.Judging.{predict_refusal}
+use Rattle.rows.proofs.PredictAnswers.{predict_call, refused, done}
 use borrow.Author.Rules.{rules}
 use Rattle.rows.proofs.prediction.predict.Statement.{statement}
 use Rattle.rows.proofs.prediction.predict.Tie as tie
@@ -18,13 +18,13 @@ returns c =
 
 -- past the branch nothing is refused
 nothing : (c : tie.Else1) → let s = c.before.before.before.before.before in
-    (predictRefusal s.args.road s.args.cells.now s.args.up s.args.down s.args.word.now (length s.args.out.now)).number ≡ 0
+    (predict_refusal s.args.road s.args.cells.now s.args.up s.args.down s.args.word.now (length s.args.out.now)).number ≡ 0
 nothing c = same_number c.before.before.judged.ensures c.if1.false
 
 write-rows-requires : tie.Need-write-rows-requires
 write-rows-requires c κs =
     let s = c.before.before.before.before.before.before in
-    checked (predict-call s.args.road s.args.cells.now s.args.up s.args.down s.args.word.now (length s.args.out.now)) (nothing c.before)
+    checked (predict_call s.args.road s.args.cells.now s.args.up s.args.down s.args.word.now (length s.args.out.now)) (nothing c.before)
 
 returns-2 : tie.Need-returns-2
 returns-2 c =

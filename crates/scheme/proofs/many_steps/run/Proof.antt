@@ -4,7 +4,7 @@ use native.Mathlib.Omega.{arith}
 use borrow.Author.Rules.{rules}
 use lib.ListN.{length}
 use Rattle.scheme.specs.Rounded.{moved}
-use Rattle.scheme.proofs.Laws.{lawful, ready-again}
+use Rattle.scheme.proofs.Laws.{lawful, ready_again}
 use Rattle.scheme.proofs.Underway.{RunUnderway, begins, turns, ends}
 use Rattle.scheme.proofs.many_steps.run.Statement.{statement}
 use Rattle.scheme.proofs.many_steps.run.Tie as tie
@@ -24,7 +24,7 @@ step-requires : tie.Need-step-requires invariant-loop decreases-loop
 step-requires c κs =
     let l = c.before.before.before.before in
     let s = l.before.before.before.before.before in
-    ready-again (s.requires.each l.loop.t) l.loop.invariant.long l.loop.invariant.below
+    ready_again (s.requires.each l.loop.t) l.loop.invariant.long l.loop.invariant.below
 
 -- a step made: the next turn of the loop, whose sums are small
 again : (c : tie.After-step invariant-loop decreases-loop) → let l = c.before.before.before.before.before in let s = l.before.before.before.before.before in
@@ -35,8 +35,8 @@ again c =
     let s = l.before.before.before.before.before in
     let ready = s.requires.each l.loop.t in
     let more = c.before.before.before.before.loop-test.true in
-    turns (λ t. lawful ready) ready.accepted.jam-high l.loop.invariant
-    c.step.new.1.1.0 c.step.result more (let same = s.requires.same in omega arith) ready.up-high c.step.ensures.0
+    turns (λ t. lawful ready) ready.accepted.jam_high l.loop.invariant
+    c.step.new.1.1.0 c.step.result more (let same = s.requires.same in omega arith) ready.up_high c.step.ensures.0
 
 add-entered : tie.Need-overflow-add-entered invariant-loop decreases-loop
 add-entered c =
@@ -45,7 +45,7 @@ add-entered c =
 
 add_left : tie.Need-overflow-add-left invariant-loop decreases-loop
 add_left c =
-    let sums = (again c.before.before.before.before).out-small in
+    let sums = (again c.before.before.before.before).out_small in
     search rules
 
 loop-again : tie.Need-loop-preserved invariant-loop decreases-loop

@@ -1,6 +1,6 @@
 -- `scheme::density_at` meets its contract: what stands ahead is the next cell, or the ghost cell.
 use mathlib.Core.Path.{sym}
-use Rattle.scheme.proofs.Ahead.{ahead-at, ahead_past}
+use Rattle.scheme.proofs.Ahead.{ahead_at, ahead_past}
 use borrow.Author.Rules.{rules}
 use Rattle.scheme.proofs.neighbours.density_at.Statement.{statement}
 use Rattle.scheme.proofs.neighbours.density_at.Tie as tie
@@ -8,7 +8,7 @@ use Rattle.scheme.proofs.neighbours.density_at.Tie as tie
 returns : tie.Need-returns
 returns c =
     let s = c.before.before in
-    sym (ahead-at s.args.down s.args.i s.args.cells.now c.before.if1.true)
+    sym (ahead_at s.args.down s.args.i s.args.cells.now c.before.if1.true)
 
 returns-2 : tie.Need-returns-2
 returns-2 c = sym (ahead_past c.before.args.down c.before.args.i c.before.args.cells.now c.if1.false)

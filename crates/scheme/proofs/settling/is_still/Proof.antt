@@ -3,7 +3,7 @@ use Prim.Native.Nat.{◌+◌, ◌-◌}
 use native.Mathlib.Omega.{arith}
 use borrow.Author.Rules.{rules}
 use lib.ListN.{length}
-use Rattle.scheme.proofs.Stillness.{EvenSoFar, begins, ends-uneven, turns-uneven, turns, ends}
+use Rattle.scheme.proofs.Stillness.{EvenSoFar, begins, ends_uneven, turns_uneven, turns, ends}
 use Rattle.scheme.proofs.settling.is_still.Statement.{statement}
 use Rattle.scheme.proofs.settling.is_still.Tie as tie
 
@@ -35,7 +35,7 @@ returns c =
     let last = c.before in
     let first = last.before.before.before in
     let s = first.before.before.before.before.before in
-    ends-uneven s.requires.accepted (begins s.requires.accepted s.requires.some first.flow.ensures) last.flow2.ensures c.if1.true
+    ends_uneven s.requires.accepted (begins s.requires.accepted s.requires.some first.flow.ensures) last.flow2.ensures c.if1.true
 
 loop-holds : tie.Need-loop-init invariant-loop decreases-loop
 loop-holds c =
@@ -49,23 +49,23 @@ returns-2 c =
     let taken = inner.before.before.before.before in
     let l = taken.before in
     let s = l.before.before.before.before.before.before.before.before.before.before in
-    turns-uneven s.requires.accepted l.loop.invariant (omega (arith, taken.loop-test.true)) inner.flow3.ensures c.if2.true
+    turns_uneven s.requires.accepted l.loop.invariant (omega (arith, taken.loop-test.true)) inner.flow3.ensures c.if2.true
 
 flow-requires : tie.Need-flow-requires invariant-loop decreases-loop
 flow-requires c κs =
     let s = c.before.before.before.before in
-    (s.requires.accepted, (s.requires.pace-of-road, (s.requires.up-high, s.requires.below 0)))
+    (s.requires.accepted, (s.requires.pace_of_road, (s.requires.up_high, s.requires.below 0)))
 
 flow-requires-2 : tie.Need-flow-requires-2 invariant-loop decreases-loop
 flow-requires-2 c κs =
     let s = c.before.before.before.before.before.before.before in
-    (s.requires.accepted, (s.requires.pace-of-road, (s.requires.below _, s.requires.down-high)))
+    (s.requires.accepted, (s.requires.pace_of_road, (s.requires.below _, s.requires.down_high)))
 
 flow-requires-3 : tie.Need-flow-requires-3 invariant-loop decreases-loop
 flow-requires-3 c κs =
     let l = c.before.before.before.before in
     let s = l.before.before.before.before.before.before.before.before.before.before in
-    (s.requires.accepted, (s.requires.pace-of-road, (s.requires.below l.loop.i, s.requires.below (l.loop.i + 1))))
+    (s.requires.accepted, (s.requires.pace_of_road, (s.requires.below l.loop.i, s.requires.below (l.loop.i + 1))))
 
 pub is-still-spec : {M : Type 1} → statement M
 is-still-spec =

@@ -1,13 +1,13 @@
 -- `station::bad_pair` meets its contract: one of the three tests holds.
 use mathlib.Core.Path.{◌∙◌, ap₂, refl}
 use Rattle.choice.specs.Choice.{or}
-use Rattle.station.specs.Station.{badGiven}
+use Rattle.station.specs.Station.{bad_given}
 use borrow.Author.Rules.{rules}
 use Rattle.station.proofs.stations.bad_pair.Statement.{statement}
 use Rattle.station.proofs.stations.bad_pair.Tie as tie
 
 returns : tie.Need-returns
-unfolding badGiven
+unfolding bad_given
 returns c =
     let inner = c.before in
     let speed = inner.before in

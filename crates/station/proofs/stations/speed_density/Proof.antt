@@ -1,13 +1,13 @@
 -- `station::speed_density` meets its contract: the operations of the definition, in its order.
 use mathlib.Core.Path.{ap₂}
 use lib.Ieee.{binary64, add, mul, div}
-use Rattle.station.specs.Station.{speedDensity}
+use Rattle.station.specs.Station.{speed_density}
 use borrow.Author.Rules.{rules}
 use Rattle.station.proofs.stations.speed_density.Statement.{statement}
 use Rattle.station.proofs.stations.speed_density.Tie as tie
 
 returns : tie.Need-returns
-unfolding speedDensity
+unfolding speed_density
 returns c =
     let times = c.before in
     let jam = times.before in

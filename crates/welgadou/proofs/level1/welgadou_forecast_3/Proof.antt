@@ -1,5 +1,5 @@
 -- `welgadou_forecast_3` meets its contract: the answer below, case by case.
-use Rattle.welgadou.proofs.ForecastAnswers.{forecast-done, forecast-refused}
+use Rattle.welgadou.proofs.ForecastAnswers.{forecast_done, forecast_refused}
 use borrow.Author.Rules.{rules}
 use Rattle.welgadou.proofs.level1.welgadou_forecast_3.Statement.{statement}
 use Rattle.welgadou.proofs.level1.welgadou_forecast_3.Tie as tie
@@ -7,12 +7,12 @@ use Rattle.welgadou.proofs.level1.welgadou_forecast_3.Tie as tie
 returns : tie.Need-returns
 returns c =
     let called = c.before.before.before.before.before in
-    forecast-done called.forecast.ensures c.before.d.given.1
+    forecast_done called.forecast.ensures c.before.d.given.1
 
 returns-2 : tie.Need-returns-2
 returns-2 c =
     let called = c.before.before.before.before.before in
-    forecast-refused called.forecast.ensures c.before.f.given.1
+    forecast_refused called.forecast.ensures c.before.f.given.1
 
 pub welgadou-forecast-3-spec : {M : Type 1} → statement M
 welgadou-forecast-3-spec =

@@ -1,5 +1,5 @@
 -- `welgadou_settle_2` meets its contract: the answer below, case by case.
-use Rattle.welgadou.proofs.ForecastAnswers.{settle-done, settle-refused}
+use Rattle.welgadou.proofs.ForecastAnswers.{settle_done, settle_refused}
 use borrow.Author.Rules.{rules}
 use Rattle.welgadou.proofs.level1.welgadou_settle_2.Statement.{statement}
 use Rattle.welgadou.proofs.level1.welgadou_settle_2.Tie as tie
@@ -7,12 +7,12 @@ use Rattle.welgadou.proofs.level1.welgadou_settle_2.Tie as tie
 returns : tie.Need-returns
 returns c =
     let called = c.before.before.before.before.before.before in
-    settle-done called.settle.ensures c.before.before.s.given.1 c.flag.ensures
+    settle_done called.settle.ensures c.before.before.s.given.1 c.flag.ensures
 
 returns-2 : tie.Need-returns-2
 returns-2 c =
     let called = c.before.before.before.before.before in
-    settle-refused called.settle.ensures c.before.f.given.1
+    settle_refused called.settle.ensures c.before.f.given.1
 
 pub welgadou-settle-2-spec : {M : Type 1} → statement M
 welgadou-settle-2-spec =

@@ -1,5 +1,5 @@
 -- `welgadou_read` meets its contract: the answer below, case by case.
-use Rattle.welgadou.proofs.ModeAnswers.{read_done, read-refused}
+use Rattle.welgadou.proofs.ModeAnswers.{read_done, read_refused}
 use borrow.Author.Rules.{rules}
 use Rattle.welgadou.proofs.level2.welgadou_read.Statement.{statement}
 use Rattle.welgadou.proofs.level2.welgadou_read.Tie as tie
@@ -12,7 +12,7 @@ returns c =
 returns-2 : tie.Need-returns-2
 returns-2 c =
     let called = c.before.before.before.before.before.before.before in
-    read-refused called.read.ensures c.before.answer.given.1
+    read_refused called.read.ensures c.before.answer.given.1
 
 pub welgadou-read-spec : {M : Type 1} → statement M
 welgadou-read-spec =

@@ -1,5 +1,5 @@
 -- `forecasts::long` is safe: every prefix lies within its array.
-use Rattle.printing.proofs.Prefix.{prefix-length}
+use Rattle.printing.proofs.Prefix.{prefix_length}
 use borrow.Author.Rules.{rules}
 use Rattle.worked_1.proofs.forecasts.long.Statement.{statement}
 use Rattle.worked_1.proofs.forecasts.long.Tie as tie
@@ -9,7 +9,7 @@ long-spec =
     tie.close
     (tie.spec (λ c κs. search rules) (λ c κs. search rules) (λ c κs. search rules) (λ c κs. search rules)
     (λ c κs. search rules) (λ c. search rules) (λ c κs. search rules) (λ c. search rules)
-    (λ c. prefix-length _ _ (search rules)) (λ c. search rules) (λ c. prefix-length _ _ (search rules))
-    (λ c. search rules) (λ c. prefix-length _ _ (search rules)) (λ c. search rules)
-    (λ c. prefix-length _ _ (search rules)) (λ c. search rules) (λ c. prefix-length _ _ (search rules))
+    (λ c. prefix_length _ _ (search rules)) (λ c. search rules) (λ c. prefix_length _ _ (search rules))
+    (λ c. search rules) (λ c. prefix_length _ _ (search rules)) (λ c. search rules)
+    (λ c. prefix_length _ _ (search rules)) (λ c. search rules) (λ c. prefix_length _ _ (search rules))
     (λ c κs. search rules) (λ c. search rules) (λ c. search rules) (λ c. search rules))

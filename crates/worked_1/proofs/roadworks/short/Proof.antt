@@ -1,5 +1,5 @@
 -- `roadworks::short` is safe: every prefix lies within its array.
-use Rattle.printing.proofs.Prefix.{prefix-length}
+use Rattle.printing.proofs.Prefix.{prefix_length}
 use borrow.Author.Rules.{rules}
 use Rattle.worked_1.proofs.roadworks.short.Statement.{statement}
 use Rattle.worked_1.proofs.roadworks.short.Tie as tie
@@ -9,7 +9,7 @@ short-spec =
     tie.close
     (tie.spec (λ c κs. search rules) (λ c κs. search rules) (λ c κs. search rules) (λ c κs. search rules)
     (λ c κs. search rules) (λ c κs. search rules) (λ c κs. search rules) (λ c. search rules)
-    (λ c. prefix-length _ _ (search rules)) (λ c. search rules) (λ c. prefix-length _ _ (search rules))
-    (λ c. search rules) (λ c. prefix-length _ _ (search rules)) (λ c. search rules) (λ c. search rules)
-    (λ c. prefix-length _ _ (search rules)) (λ c. search rules) (λ c. prefix-length _ _ (search rules))
-    (λ c. search rules) (λ c. prefix-length _ _ (search rules)) (λ c κs. search rules) (λ c. search rules))
+    (λ c. prefix_length _ _ (search rules)) (λ c. search rules) (λ c. prefix_length _ _ (search rules))
+    (λ c. search rules) (λ c. prefix_length _ _ (search rules)) (λ c. search rules) (λ c. search rules)
+    (λ c. prefix_length _ _ (search rules)) (λ c. search rules) (λ c. prefix_length _ _ (search rules))
+    (λ c. search rules) (λ c. prefix_length _ _ (search rules)) (λ c κs. search rules) (λ c. search rules))

@@ -1,5 +1,5 @@
 -- `fits::show` is safe: every prefix lies within its array.
-use Rattle.printing.proofs.Prefix.{prefix-length}
+use Rattle.printing.proofs.Prefix.{prefix_length}
 use borrow.Author.Rules.{rules}
 use Rattle.worked_2.proofs.fits.show.Statement.{statement}
 use Rattle.worked_2.proofs.fits.show.Tie as tie
@@ -8,6 +8,6 @@ pub show-spec : {M : Type 1} → statement M
 show-spec =
     tie.close
     (tie.spec (λ c κs. search rules) (λ c κs. search rules) (λ c κs. search rules) (λ c κs. search rules)
-    (λ c κs. search rules) (λ c κs. search rules) (λ c. search rules) (λ c. prefix-length _ _ (search rules))
-    (λ c. search rules) (λ c. prefix-length _ _ (search rules)) (λ c κs. search rules) (λ c κs. search rules)
+    (λ c κs. search rules) (λ c κs. search rules) (λ c. search rules) (λ c. prefix_length _ _ (search rules))
+    (λ c. search rules) (λ c. prefix_length _ _ (search rules)) (λ c κs. search rules) (λ c κs. search rules)
     (λ c κs. search rules) (λ c. search rules))

@@ -2,7 +2,7 @@
 use mathlib.Core.Path.{refl}
 use native.Mathlib.Omega.{arith}
 use Rattle.flux.specs.Pace.{part}
-use Rattle.flux.proofs.Multiplier.{product_small, upper-half-fits}
+use Rattle.flux.proofs.Multiplier.{product_small, upper_half_fits}
 use borrow.Author.Rules.{rules}
 use Rattle.flux.proofs.pace.Factor.part.Statement.{statement}
 use Rattle.flux.proofs.pace.Factor.part.Tie as tie
@@ -22,7 +22,7 @@ add-result c =
 cast-result-3 : tie.Need-overflow-cast-result-3
 cast-result-3 c =
     let s = c.before.before in
-    upper-half-fits s.args.a s.args.self.times s.args.self.offset s.requires (search rules) (search rules)
+    upper_half_fits s.args.a s.args.self.times s.args.self.offset s.requires (search rules) (search rules)
 
 returns : tie.Need-returns
 unfolding part
