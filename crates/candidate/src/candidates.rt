@@ -11,7 +11,7 @@ use road::Road;
 use rows::WholeRow;
 
 // A mode's row for a road: three coefficients and a constant, each exactly the whole number.
-#[derive(Drop)]
+#[derive(Clone, Copy)]
 pub struct CandidateRow {
     pub left: f64,
     pub own: f64,
@@ -20,13 +20,13 @@ pub struct CandidateRow {
 }
 
 // What an accepted candidate prediction gives: the predicted numerator, the density after one step times the divisor.
-#[derive(Drop)]
+#[derive(Clone, Copy)]
 pub struct CandidateResult {
     pub numerator: f64,
 }
 
 // What a candidate prediction answers: the numerator, or the refusal.
-#[derive(Drop)]
+#[derive(Clone, Copy)]
 pub enum CandidateAnswer {
     Done(CandidateResult),
     Refused(Refusal),

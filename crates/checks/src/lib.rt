@@ -1,4 +1,6 @@
 // Checks 5 to 11 and 20 of the refusal table: one test a check, for every call that the table names, and 9 to 11 of one end pair.
+#![tactic(auto)]
+
 mod lists;
 mod pairs;
 mod states;

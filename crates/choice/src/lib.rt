@@ -1,4 +1,6 @@
 // Choices: what every layer joins its tests with, and what a test adds to a count.
+#![tactic(auto)]
+
 ghost use Rattle.std.specs.Prelude.{◌≡◌};
 ghost use Rattle.choice.specs.Choice.{or, pick};
 

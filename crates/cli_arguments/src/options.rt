@@ -5,7 +5,7 @@ use super::words;
 const PICTURE: usize = 10;
 
 // What the arguments ask for.
-#[derive(Drop)]
+#[derive(Clone, Copy)]
 pub struct Options {
     // whether the script asks for the status
     pub reports: bool,

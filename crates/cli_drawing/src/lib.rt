@@ -1,4 +1,6 @@
 // The picture of a forecast: every step is worked before the file is opened.
+#![tactic(auto)]
+
 mod files;
 mod rows;
 mod steps;

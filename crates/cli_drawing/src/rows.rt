@@ -8,7 +8,7 @@ const WIDE: u32 = 1024;
 const HIGH: u32 = 512;
 
 // The sizes of a picture: cells and columns, the pixels of a column across and of a cell upward, the whole, a row's bytes.
-#[derive(Drop)]
+#[derive(Clone, Copy)]
 pub struct Sizes {
     pub cells: usize,
     pub columns: usize,

@@ -7,7 +7,7 @@ use libc::STDIN_FILENO;
 use printing::{page, say};
 
 // How much was read, and whether that is all.
-#[derive(Drop)]
+#[derive(Clone, Copy)]
 pub struct Got {
     pub status: u8,
     pub count: usize,

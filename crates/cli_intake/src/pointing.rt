@@ -2,7 +2,7 @@
 use cli_scenario::Verdict;
 
 // A part of a text, from start up to end.
-#[derive(Drop)]
+#[derive(Clone, Copy)]
 struct Part {
     start: usize,
     end: usize,

@@ -9,7 +9,7 @@ use printing::page::Page;
 use road::Road;
 
 // Three estimates.
-#[derive(Drop)]
+#[derive(Clone, Copy)]
 struct Estimates {
     left: f64,
     own: f64,

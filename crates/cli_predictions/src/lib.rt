@@ -1,4 +1,6 @@
 // Level 2 on the command line: rows, candidate and word count.
+#![tactic(auto)]
+
 pub mod candidates;
 pub mod counts;
 mod forms;

@@ -1,4 +1,6 @@
 // Level 2 on the command line: the reading of a state, and the fit test.
+#![tactic(auto)]
+
 pub mod fits;
 mod forms;
 pub mod states;

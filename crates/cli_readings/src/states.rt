@@ -13,7 +13,7 @@ use road::Road;
 
 // Which state is read: by which action, whether a word on it is wanted, and after how many steps of a forecast, with how many
 // caps that are not open.
-#[derive(Drop)]
+#[derive(Clone, Copy)]
 struct State {
     action: u8,
     told: bool,

@@ -95,7 +95,7 @@ pub fn mode(text: &[u8]) -> u8 {
 }
 
 // One end pair.
-#[derive(Drop)]
+#[derive(Clone, Copy)]
 pub struct Pair {
     pub up: u32,
     pub down: u32,
@@ -130,7 +130,7 @@ pub fn quotient(text: &[u8], key: u8) -> f64 {
 }
 
 // The three numbers of an estimate line.
-#[derive(Drop)]
+#[derive(Clone, Copy)]
 pub struct Three {
     pub left: u64,
     pub own: u64,

@@ -6,7 +6,7 @@ use refusal::Refusal;
 use road::Road;
 
 // What a message tells of the input besides: its lengths, and whether its ends have a step each.
-#[derive(Drop)]
+#[derive(Clone, Copy)]
 pub struct Input {
     pub cells: usize,
     pub upstream: usize,

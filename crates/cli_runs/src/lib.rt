@@ -1,4 +1,6 @@
 // Level 1 on the command line: the forecast with its picture, and the settling run.
+#![tactic(auto)]
+
 pub mod forecasts;
 mod forms;
 pub mod settlings;

@@ -7,7 +7,7 @@ ghost use Rattle.cli_scenario.specs.Heads.{key_at, head_of};
 use cli_vocabulary::{HASH, NEWLINE, NO_KEY, first_word, key_code, piece_end};
 
 // A line's key, and the part of the line where its values stand: from one place up to another.
-#[derive(Drop)]
+#[derive(Clone, Copy)]
 pub struct Head {
     pub key: u8,
     pub from: usize,

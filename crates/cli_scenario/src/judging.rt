@@ -9,7 +9,7 @@ use cli_vocabulary::{BLANK, CODES, NEWLINE, NO_KEY, UNKNOWN, item_of, key_of, pi
 
 // What is wrong first (0: nothing); its line, from 1 (0 only where nothing is wrong); and that line's key, UNKNOWN where it
 // has none or an unknown one, and for 0, 8 and 9.
-#[derive(Drop)]
+#[derive(Clone, Copy)]
 pub struct Verdict {
     pub what: u32,
     pub line: u64,
@@ -17,7 +17,7 @@ pub struct Verdict {
 }
 
 // How far the judgement is: the last line's number and key, what is wrong, and which keys were seen.
-#[derive(Drop)]
+#[derive(Clone, Copy)]
 pub struct Progress {
     pub what: u32,
     pub line: u64,

@@ -1,5 +1,7 @@
 // The reader of a scenario's text: lines of a keyword and values. A text means one thing only: `judge` says what is wrong
 // with it first, and `values` and `line_of` what its lines give to a key; `wrong_word` serves messages.
+#![tactic(auto)]
+
 mod finding;
 mod judging;
 mod listing;

@@ -8,7 +8,7 @@ use super::numbers::{Number, number_of};
 use super::pieces::{CARET, piece_end};
 
 // A value and how often it stands; what is wrong with it, and then no value.
-#[derive(Drop)]
+#[derive(Clone, Copy)]
 pub struct Item {
     pub what: u32,
     pub value: u64,

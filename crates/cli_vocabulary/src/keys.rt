@@ -4,7 +4,7 @@ ghost use Rattle.cli_vocabulary.specs.Keys.{key_count, key_row, is_name, key_cod
 
 // What a scenario's text says of a key: its keyword in ASCII, padded with blanks to ten letters; whether its lines are joined
 // to a list; how many values a line takes, 0 of a list, whose line takes one or more; the largest number.
-#[derive(Drop)]
+#[derive(Clone, Copy)]
 pub struct Key {
     pub name: [u8; 10],
     pub list: bool,
@@ -13,7 +13,7 @@ pub struct Key {
 }
 
 // The same in a table's row, in that order.
-#[derive(Drop)]
+#[derive(Clone, Copy)]
 struct Row([u8; 10], bool, usize, u64);
 
 // The largest number: a code or a mode is one byte, a bit pattern or a total 64 bits, any other number 32 bits.

@@ -1,4 +1,6 @@
 // The vocabulary of a scenario: the pieces of a text, the keys, and what one word is as a value of a key.
+#![tactic(auto)]
+
 pub mod codes;
 mod items;
 mod keys;

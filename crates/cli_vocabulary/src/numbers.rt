@@ -4,7 +4,7 @@ ghost use Rattle.cli_vocabulary.specs.Numbers.{is_digit, is_number, all_digits, 
 
 // A number, and what is wrong with it: 0, nothing; 3, the word is no number; 4, it is too large. Where something is
 // wrong the number is 0.
-#[derive(Drop)]
+#[derive(Clone, Copy)]
 pub struct Number {
     pub what: u32,
     pub value: u64,

@@ -12,7 +12,7 @@ pub const HASH: u8 = 35;
 pub const CARET: u8 = 94;
 
 // A part of a text, from start up to end.
-#[derive(Drop)]
+#[derive(Clone, Copy)]
 pub struct Part {
     pub start: usize,
     pub end: usize,

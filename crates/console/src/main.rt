@@ -1,4 +1,6 @@
 // The command line: reads a scenario, judges it, and then does what its keys ask. What it did is its status (status.rt).
+#![tactic(auto)]
+
 mod actions;
 
 use cli_arguments::options::Options;

@@ -8,13 +8,13 @@ use refusal::Refusal;
 use road::Road;
 
 // A count of legal words.
-#[derive(Drop)]
+#[derive(Clone, Copy)]
 pub struct WordCount {
     pub words: u64,
 }
 
 // What a word count answers.
-#[derive(Drop)]
+#[derive(Clone, Copy)]
 pub enum CountAnswer {
     Done(WordCount),
     Refused(Refusal),

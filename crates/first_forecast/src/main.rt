@@ -1,4 +1,6 @@
 // The README's first forecast: one step of road A, printed.
+#![tactic(auto)]
+
 use forecast::ForecastAnswer;
 use libc::STDOUT_FILENO;
 use road::Road;

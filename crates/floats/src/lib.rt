@@ -1,1 +1,3 @@
 // Floats that are whole numbers, and floats that are numbers: theorems only.
+#![tactic(auto)]
+

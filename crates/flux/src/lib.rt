@@ -1,5 +1,7 @@
 // One face of the triangular Godunov scheme: what its cells send and receive, units moved, letter; and the units without a
 // division.
+#![tactic(auto)]
+
 mod face;
 mod pace;
 

@@ -10,14 +10,14 @@ use road::Road;
 
 // A speed as a fraction of 2^32, and what the rounding adds, in the same parts. The multiplier is 32 bits wide, so that a
 // vector multiplication takes two of them.
-#[derive(Drop)]
+#[derive(Clone, Copy)]
 pub struct Factor {
     pub times: u32,
     pub offset: u32,
 }
 
 // What every face of a road needs, made once a call.
-#[derive(Drop)]
+#[derive(Clone, Copy)]
 pub struct Pace {
     pub road: Road,
     pub send: Factor,

@@ -17,14 +17,14 @@ const LARGEST: u64 = 18446744073709551615;
 const CELLS: usize = Road::CELLS as usize;
 
 // What an accepted forecast hands back: the units of its own steps, and the totals since commissioning with these in them.
-#[derive(Drop)]
+#[derive(Clone, Copy)]
 pub struct Record {
     pub own: Totals,
     pub totals: Totals,
 }
 
 // What a forecast answers: its record, or the refusal.
-#[derive(Drop)]
+#[derive(Clone, Copy)]
 pub enum ForecastAnswer {
     Done(Record),
     Refused(Refusal),

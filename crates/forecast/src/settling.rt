@@ -9,7 +9,7 @@ use road::Road;
 use scheme::Settled;
 
 // What a settling run answers: settled or not with the steps made, or the refusal.
-#[derive(Drop)]
+#[derive(Clone, Copy)]
 pub enum SettleAnswer {
     Done(Settled),
     Refused(Refusal),

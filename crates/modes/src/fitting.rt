@@ -8,14 +8,14 @@ use refusal::Refusal;
 use road::Road;
 
 // Whether all faces of the word hold, or the lowest face that does not.
-#[derive(Drop)]
+#[derive(Clone, Copy)]
 pub struct FitResult {
     pub holds: bool,
     pub face: u32,
 }
 
 // What a fit test answers.
-#[derive(Drop)]
+#[derive(Clone, Copy)]
 pub enum FitAnswer {
     Done(FitResult),
     Refused(Refusal),

@@ -1,5 +1,7 @@
 // Level 2, public: the reading of a state and the fit test of a word. No call asks anything of its input: each judges it, and
 // refuses what the table refuses. Internal, for `rows`: `mode_of`.
+#![tactic(auto)]
+
 mod fitting;
 mod mode;
 mod reading;

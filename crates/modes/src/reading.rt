@@ -9,21 +9,21 @@ use refusal::Refusal;
 use road::Road;
 
 // One count for each mode, 1 to 7, and the queued cells: those denser than critical.
-#[derive(Drop)]
+#[derive(Clone, Copy)]
 pub struct Counts {
     pub modes: [u32; 7],
     pub queued: u32,
 }
 
 // Whether a reading was made.
-#[derive(Drop)]
+#[derive(Clone, Copy)]
 pub enum ReadAnswer {
     Done,
     Refused(Refusal),
 }
 
 // A reading's answer beside its counts, all 0 when refused.
-#[derive(Drop)]
+#[derive(Clone, Copy)]
 pub struct StateReading {
     pub answer: ReadAnswer,
     pub counts: Counts,

@@ -31,7 +31,7 @@ fn before_whole(page: &mut Page, lines: bool, name: &[u8]) {
 }
 
 // A number of 64 bits that was made of a double, where there is one.
-#[derive(Drop)]
+#[derive(Clone, Copy)]
 pub enum Integer {
     Is(i64),
     Nothing,

@@ -1,10 +1,12 @@
 // The refusal, and the rule of its table: the checks stand in the call's order of checks, and the first that holds is
 // returned (document 01, "Where each refusal is made"; document 02, E7).
+#![tactic(auto)]
+
 ghost use Rattle.std.specs.Prelude.{◌≡◌};
 ghost use Rattle.refusal.specs.Table.{passed, or_if};
 
 // A refusal's number and place; number 0 says that nothing is refused.
-#[derive(Drop)]
+#[derive(Clone, Copy)]
 pub struct Refusal {
     pub number: u32,
     pub place: u32,

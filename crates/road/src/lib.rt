@@ -1,4 +1,6 @@
 // The road: five numbers, its ceilings, and the judgement that every call with a road makes of it first.
+#![tactic(auto)]
+
 mod ceilings;
 mod judgement;
 
@@ -6,7 +8,7 @@ pub use ceilings::{cells_ceiling, count_ceiling, divisor_ceiling, horizon_ceilin
 pub use judgement::judged;
 
 // A uniform road (document 01, "The road and its units"), in the order of its paragraph.
-#[derive(Drop)]
+#[derive(Clone, Copy)]
 pub struct Road {
     // D: speeds are counted in cells per `divisor` steps
     pub divisor: u32,

@@ -8,7 +8,7 @@ ghost use Rattle.rows.specs.Coefficients.{entry, own_coefficient, constant_of, w
 use road::Road;
 
 // A mode's row on a road: what it multiplies left, own and right by, and what it adds.
-#[derive(Drop)]
+#[derive(Clone, Copy)]
 pub struct WholeRow {
     pub left: i64,
     pub own: i64,

@@ -9,7 +9,7 @@ use refusal::Refusal;
 use road::Road;
 
 // What a row prediction answers.
-#[derive(Drop)]
+#[derive(Clone, Copy)]
 pub enum PredictAnswer {
     Done,
     Refused(Refusal),

@@ -1,4 +1,6 @@
 // The scheme on a list of cells: one step in place, a run over two end lists, a settling run.
+#![tactic(auto)]
+
 mod many_steps;
 mod neighbours;
 mod one_step;

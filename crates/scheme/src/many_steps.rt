@@ -5,7 +5,7 @@ use super::one_step::step;
 use flux::Pace;
 
 // The units over face 0 and over face n, of one run or since commissioning.
-#[derive(Drop)]
+#[derive(Clone, Copy)]
 pub struct Totals {
     pub entered: u64,
     pub left: u64,

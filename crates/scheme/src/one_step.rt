@@ -7,7 +7,7 @@ ghost use Rattle.scheme.specs.Calls.{Ready, Stepped, SteppedByFaces};
 use flux::Pace;
 
 // The units over face 0 and over face n in one step.
-#[derive(Drop)]
+#[derive(Clone, Copy)]
 pub struct Moved {
     pub entered: u32,
     pub left: u32,

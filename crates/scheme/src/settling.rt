@@ -7,7 +7,7 @@ use super::one_step::step;
 use flux::Pace;
 
 // Whether a run settled, and the number of steps that it made.
-#[derive(Drop)]
+#[derive(Clone, Copy)]
 pub struct Settled {
     pub settled: bool,
     pub steps: u32,

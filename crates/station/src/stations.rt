@@ -6,7 +6,7 @@ use refusal::Refusal;
 use road::Road;
 
 // What a station gives. A density in units a cell, a flow in units a step, a speed in cells a step.
-#[derive(Drop)]
+#[derive(Clone, Copy)]
 pub enum StationReading {
     Density(f64),
     FlowAndSpeed { flow: f64, speed: f64 },
@@ -15,13 +15,13 @@ pub enum StationReading {
 
 // What an accepted reading gives: the density estimate. Candidate prediction accepts it on the same road, in each of its
 // three places.
-#[derive(Drop)]
+#[derive(Clone, Copy)]
 pub struct Estimate {
     pub density: f64,
 }
 
 // What a station reading answers: the estimate, or the refusal.
-#[derive(Drop)]
+#[derive(Clone, Copy)]
 pub enum StationAnswer {
     Done(Estimate),
     Refused(Refusal),

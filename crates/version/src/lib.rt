@@ -1,5 +1,7 @@
 // The version of what buyers hold. Header, Rust crate and change log repeat it and are held to it by a test; the archive
 // and the command line read it here.
+#![tactic(auto)]
+
 ghost use Rattle.std.specs.Prelude.{◌≡◌};
 ghost use Rattle.version.specs.Version.{version_number};
 

@@ -2,6 +2,8 @@
 // lists as pointer and length; the result is 0 or the refusal's number, and further results go through pointers, the
 // seven counts through one pointer to exactly seven. A call whose parameters change gets the next number in its name, so
 // that a program with the declaration of before does not link.
+#![tactic(auto)]
+
 mod ceilings;
 mod level1;
 mod level2;

@@ -8,7 +8,7 @@ use worked::roads::A;
 use worked::{print, roads};
 
 // A road, its name, and the densities before and after a face.
-#[derive(Drop)]
+#[derive(Clone, Copy)]
 struct Face(u8, usize, u32, u32);
 
 const COUNT: usize = 18;

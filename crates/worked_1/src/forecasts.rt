@@ -55,7 +55,7 @@ pub fn show(
 }
 
 // A road, cells, upstream and downstream ends, the steps, and the places of the output.
-#[derive(Drop)]
+#[derive(Clone, Copy)]
 struct Case(u8, u8, u8, u8, u32, usize);
 
 const COUNT: usize = 17;
@@ -115,7 +115,7 @@ pub fn cases(page: &mut Page) {
 }
 
 // A road, the density of all cells, of all upstream and of all downstream ends, how many cells and ends, and the steps.
-#[derive(Drop)]
+#[derive(Clone, Copy)]
 struct Edge(u8, u32, u32, u32, usize, usize, u32);
 
 const EDGE_COUNT: usize = 13;

@@ -1,5 +1,7 @@
 // The worked cases of Level 1, run: roads, faces, forecasts, settling runs, still steps, totals, the step in its one list,
 // roadworks. One line a case and a comparison, held to stdout.
+#![tactic(auto)]
+
 mod faces;
 mod forecasts;
 mod forms;

@@ -9,7 +9,7 @@ use worked::roads::A;
 use worked::{few, lists, roads};
 
 // Cells, the upstream and the downstream end of every step, the steps, how many caps, and the places of the output.
-#[derive(Drop)]
+#[derive(Clone, Copy)]
 struct Case(u8, u32, u32, usize, usize, usize);
 
 const COUNT: usize = 17;

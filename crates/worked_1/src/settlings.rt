@@ -61,7 +61,7 @@ pub fn show(
 }
 
 // A road, cells, the upstream and the downstream end, the most steps, and the places of the output.
-#[derive(Drop)]
+#[derive(Clone, Copy)]
 struct Case(u8, u8, u32, u32, u32, usize);
 
 const COUNT: usize = 12;

@@ -8,7 +8,7 @@ use worked::{few, lists, roads};
 
 // A road, its name, how many cells, the density of the first and of the others, the upstream end, the steps, the cap of
 // face 1 and of the others.
-#[derive(Drop)]
+#[derive(Clone, Copy)]
 struct Case(u8, usize, usize, u32, u32, u32, u32, u32, u32);
 
 const COUNT: usize = 10;

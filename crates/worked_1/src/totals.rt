@@ -43,7 +43,7 @@ fn show(page: &mut Page, line: usize, ups: &[u32], downs: &[u32], horizon: u32, 
 }
 
 // Upstream and downstream ends, the steps, and the totals so far.
-#[derive(Drop)]
+#[derive(Clone, Copy)]
 struct Case(u8, u8, u32, u64, u64);
 
 const COUNT: usize = 8;
@@ -120,7 +120,7 @@ fn fed(page: &mut Page, cells: &mut [u32; 3], totals: Totals, up: u32, down: u32
 }
 
 // The ends of each call: the third is refused.
-#[derive(Drop)]
+#[derive(Clone, Copy)]
 struct Ends(u32, u32);
 
 const CALLS: usize = 5;

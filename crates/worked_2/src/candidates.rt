@@ -7,7 +7,7 @@ use worked::roads::A;
 use worked::{print, roads};
 
 // A mode, the left, own and right estimate, and the numerator that they should give, 0 where they are refused.
-#[derive(Drop)]
+#[derive(Clone, Copy)]
 struct Case(u8, f64, f64, f64, f64);
 
 const COUNT: usize = 8;

@@ -23,7 +23,7 @@ fn answered(page: &mut Page, answer: FitAnswer) {
 }
 
 // A road, cells, the upstream end, and the word that the state is held to.
-#[derive(Drop)]
+#[derive(Clone, Copy)]
 struct Case(u8, u8, u32, u8);
 
 const COUNT: usize = 9;

@@ -1,4 +1,6 @@
 // The worked cases of Level 2, run: readings, queues, fits, predictions, candidates, counts. One line a case, held to stdout.
+#![tactic(auto)]
+
 mod candidates;
 mod counts;
 mod fits;

@@ -24,7 +24,7 @@ fn show(page: &mut Page, line: usize, cells: &[u32], up: u32, word: &[u8], out: 
 }
 
 // Cells, the upstream end, the word whose rows they are, and the places of the output.
-#[derive(Drop)]
+#[derive(Clone, Copy)]
 struct Case(u8, u32, u8, usize);
 
 const COUNT: usize = 8;

@@ -46,7 +46,7 @@ pub fn show(
 }
 
 // A road, cells, the upstream and the downstream end, and the places of the output of modes.
-#[derive(Drop)]
+#[derive(Clone, Copy)]
 struct Case(u8, u8, u32, u32, usize);
 
 const COUNT: usize = 7;

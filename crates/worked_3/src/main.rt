@@ -1,4 +1,6 @@
 // The worked cases of Level 3, run: station readings, and how near the next mode is. One line a case, held to stdout.
+#![tactic(auto)]
+
 mod forms;
 mod rankings;
 mod stations;

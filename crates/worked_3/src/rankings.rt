@@ -37,7 +37,7 @@ fn show(
 }
 
 // A road, the upstream and the downstream end, how many cells, and the places of the two outputs.
-#[derive(Drop)]
+#[derive(Clone, Copy)]
 struct Case(u8, u32, u32, usize, usize, usize);
 
 const COUNT: usize = 15;

@@ -37,7 +37,7 @@ fn show(page: &mut Page, kind: usize, line: usize, road: u8, x: f64, speed: f64)
 }
 
 // A kind and its number, and after a flow its speed.
-#[derive(Drop)]
+#[derive(Clone, Copy)]
 struct Case(usize, f64, f64);
 
 const COUNT: usize = 18;
