@@ -37,7 +37,13 @@ fn report(page: &mut Page, lines: bool, s: Sizes) {
 }
 
 // The picture saved; the status. What was said before goes out first.
-fn saved_and_told<R: Env + Files>(rt: &R, page: &mut Page, o: Options, shades: &[u8], s: Sizes) -> u8 {
+fn saved_and_told<R: Env + Files>(
+    rt: &R,
+    page: &mut Page,
+    o: Options,
+    shades: &[u8],
+    s: Sizes,
+) -> u8 {
     page::sent(page);
     let mut word = io::buffer();
     let k = words::copied(rt, o.picture, &mut word);

@@ -97,12 +97,7 @@ fn opened<R: Files>(rt: &R, streams: Streams, path: &[u8], buf: &mut [u8]) -> Go
 }
 
 // The text that the argument at a place names, or standard input for place 0.
-pub fn read<R: Env + Files + Input>(
-    rt: &R,
-    streams: Streams,
-    place: usize,
-    buf: &mut [u8],
-) -> Got
+pub fn read<R: Env + Files + Input>(rt: &R, streams: Streams, place: usize, buf: &mut [u8]) -> Got
     ensures { IsPrefixLen result.count buf.new }
 {
     if place == 0 {

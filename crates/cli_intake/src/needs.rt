@@ -114,9 +114,23 @@ fn estimates(rt: &impl Env, streams: Streams, file: usize, text: &[u8]) -> bool 
         return true;
     }
     if whole {
-        errors::at(rt, streams, file, text, codes::CANDIDATE, errors::BOTH_ESTIMATES);
+        errors::at(
+            rt,
+            streams,
+            file,
+            text,
+            codes::CANDIDATE,
+            errors::BOTH_ESTIMATES,
+        );
     } else {
-        errors::at(rt, streams, file, text, codes::CANDIDATE, errors::NO_ESTIMATES);
+        errors::at(
+            rt,
+            streams,
+            file,
+            text,
+            codes::CANDIDATE,
+            errors::NO_ESTIMATES,
+        );
     }
     false
 }
@@ -140,7 +154,14 @@ fn reading(rt: &impl Env, streams: Streams, file: usize, text: &[u8]) -> bool {
 }
 
 fn mixed(rt: &impl Env, streams: Streams, file: usize, text: &[u8]) -> bool {
-    errors::at(rt, streams, file, text, codes::STATION, errors::MIXED_READING);
+    errors::at(
+        rt,
+        streams,
+        file,
+        text,
+        codes::STATION,
+        errors::MIXED_READING,
+    );
     false
 }
 
