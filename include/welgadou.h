@@ -2,7 +2,7 @@
  *
  * Welgadou works the triangular Godunov scheme, also called the cell transmission model, on whole numbers. This file is
  * everything that a C or C++ program needs to know of it. Link with libwelgadou.a (x86-64 Linux), which
- * `rt staticlib welgadou` writes, or with what `./install PREFIX` puts in place for pkg-config.
+ * `./archive` writes, or with what `./install PREFIX` puts in place for pkg-config.
  *
  * WHAT IS PROVED
  *

@@ -1,4 +1,4 @@
-//! Says where the proved archive stands: in the folder that WELGADOU_LIB_DIR names, else where `rt staticlib welgadou`
+//! Says where the proved archive stands: in the folder that WELGADOU_LIB_DIR names, else where `./archive`
 //! puts it in this repository. Nothing is built here.
 use std::env;
 use std::path::{Path, PathBuf};
@@ -13,7 +13,7 @@ fn main() {
     let archive = folder.join("libwelgadou.a");
     println!("cargo:rerun-if-changed={}", archive.display());
     if !archive.is_file() {
-        eprintln!("{} is missing: run `rt staticlib welgadou`, or set WELGADOU_LIB_DIR", archive.display());
+        eprintln!("{} is missing: run `./archive`, or set WELGADOU_LIB_DIR", archive.display());
         exit(1);
     }
     println!("cargo:rustc-link-search=native={}", folder.display());

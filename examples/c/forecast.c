@@ -1,7 +1,7 @@
 /* A first program with Welgadou: one road, one state, every call of every level.
  * `tests/outside` compiles it as C99 and as C++, runs it and compares what it prints with forecast.expected.
  *
- *     rt staticlib welgadou
+ *     ./archive
  *     gcc -std=c99 -Iinclude examples/c/forecast.c target/staticlib/libwelgadou.a -o forecast
  *
  * or, once `./install PREFIX` has been run and pkg-config finds PREFIX/lib/pkgconfig,

@@ -6,7 +6,7 @@
 //! words unit, cell, face, cap, letter, word, mode and station mean, stands in `include/welgadou.h`; this crate adds types
 //! and nothing else.
 //!
-//! Build the archive with `rt staticlib welgadou` in the repository, or set `WELGADOU_LIB_DIR` to the folder, by its
+//! Build the archive with `./archive` in the repository, or set `WELGADOU_LIB_DIR` to the folder, by its
 //! absolute path, in which you keep `libwelgadou.a`.
 //!
 //! ```

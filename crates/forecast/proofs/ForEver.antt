@@ -17,7 +17,7 @@ use Rattle.scheme.proofs.Promises.{round_run_length, round_range, round_balance,
 use Rattle.forecast.specs.declared.settling.SettleAnswer.{SettleAnswer}
 use Rattle.forecast.specs.declared.settling.SettleAnswer.TheVariants as S
 use Rattle.forecast.specs.Forecast.{forecast_refusal, Checked}
-use Rattle.forecast.specs.Settle.{settle_refusal, settle_answer, settle_output, meaning as settle-meaning, SettleChecked, Settles}
+use Rattle.forecast.specs.Settle.{settle_refusal, settle_answer, settle_output, meaning as settle_meaning, SettleChecked, Settles}
 use Rattle.forecast.specs.Chain.{Call, Site, Commissioned}
 use Rattle.forecast.specs.ForEver.{SettleCall, AnyCall, forecast, settle, ForecastPasses, SettlePasses, Passes, AllPass, forecast_steps, lifetime, settle_answer_to, IsDone, settled, site_after, steps_reported, entered_in, left_in, last_cells, entered_in_all, left_in_all, ForEver}
 use Rattle.forecast.proofs.Checked.{forecast_call, settle_call}
@@ -122,7 +122,7 @@ module _ (r : Road) (n steps : ℕ) (s : Site) (c : SettleCall) (f : Feeds r n s
   settle_answers = rw settle_accepts refl
 
   reports : steps_reported r s c ≡ settle_steps r c.caps c.up c.down c.horizon s.cells
-  reports = ap (λ (a : SettleAnswer). (settle-meaning a).steps) settle_answers
+  reports = ap (λ (a : SettleAnswer). (settle_meaning a).steps) settle_answers
 
   settle_leaves : site_after r s (settle c) ≡ record { cells = settle_cells r c.caps c.up c.down c.horizon s.cells; totals = s.totals }
   unfolding settle_answer settle_output

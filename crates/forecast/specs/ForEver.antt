@@ -11,7 +11,7 @@ use Rattle.forecast.specs.declared.forecasting.ForecastAnswer.TheVariants as F
 use Rattle.forecast.specs.declared.settling.SettleAnswer.{SettleAnswer}
 use Rattle.forecast.specs.declared.settling.SettleAnswer.TheVariants as S
 use Rattle.forecast.specs.Forecast.{meaning}
-use Rattle.forecast.specs.Settle.{settle_answer, settle_output, meaning as settle-meaning}
+use Rattle.forecast.specs.Settle.{settle_answer, settle_output, meaning as settle_meaning}
 use Rattle.forecast.specs.Chain.{Call, Site, answer_to, after_call}
 
 -- a settling run of the chain: its caps, its horizon, its end pair, and what its output held before
@@ -67,7 +67,7 @@ abbrev pub settle_answer_to : Road → Site → SettleCall → SettleAnswer
 settle_answer_to r s c = settle_answer r c.caps s.cells c.up c.down c.horizon (length c.out)
 
 abbrev pub steps_reported : Road → Site → SettleCall → ℕ
-steps_reported r s c = (settle-meaning (settle_answer_to r s c)).steps
+steps_reported r s c = (settle_meaning (settle_answer_to r s c)).steps
 
 -- the call answers Done
 abbrev pub IsDone : Road → Site → AnyCall → Type 0

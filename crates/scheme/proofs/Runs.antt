@@ -65,7 +65,7 @@ run_ordered : {F : ℕ → ℕ → ℕ → ℕ → ℕ} {m j c : ℕ} → Always
 unfolding ran
 run_ordered laws none e p = p
 run_ordered laws (one u us) none p = p
-run_ordered laws (one u us) (one d ds) p = run_ordered (λ t. laws (suc t)) us ds (stepped_ordered (laws 0) p u d)
+run_ordered {F = F} laws (one u us) (one d ds) p = run_ordered {F = λ t. F (suc t)} (λ t. laws (suc t)) us ds (stepped_ordered (laws 0) p u d)
 
 pub run_monotone : {F : ℕ → ℕ → ℕ → ℕ → ℕ} {m j c : ℕ} → AlwaysLawful m j c F → {ups ups' downs downs' xs ys : List ℕ} → NoMore ups ups' → NoMore downs downs' → NoMore xs ys
     → NoMore (ran_by m F ups downs xs) (ran_by m F ups' downs' ys)

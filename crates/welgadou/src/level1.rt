@@ -9,8 +9,7 @@ use scheme::Totals;
 
 // 0, with the cells after the horizon's steps in `out`, their units in `entered` and `left`, both totals increased by these
 // and 0 in `place`; or the refusal's number with its place, and every other output as it was.
-#[unsafe(no_mangle)]
-pub extern "C" fn welgadou_forecast_3(
+pub fn welgadou_forecast_3(
     divisor: u32,
     free: u32,
     wave: u32,
@@ -61,8 +60,7 @@ pub extern "C" fn welgadou_forecast_3(
 
 // 0, with the state in `out`, 1 in `settled` where the run settled and 0 where not, the steps made in `steps` and 0 in
 // `place`; or the refusal's number with its place, and every other output as it was.
-#[unsafe(no_mangle)]
-pub extern "C" fn welgadou_settle_2(
+pub fn welgadou_settle_2(
     divisor: u32,
     free: u32,
     wave: u32,

@@ -11,8 +11,7 @@ use rows::PredictAnswer;
 
 // 0, with the letters in `letters`, the modes in `modes`, the seven counts behind `counts`, the queued cells in `queued`
 // and 0 in `place`; or the refusal's number with its place, and every other output as it was.
-#[unsafe(no_mangle)]
-pub extern "C" fn welgadou_read(
+pub fn welgadou_read(
     divisor: u32,
     free: u32,
     wave: u32,
@@ -56,8 +55,7 @@ pub extern "C" fn welgadou_read(
 
 // 0, with 1 in `holds` where every face of the word holds and 0 where not, in `face` the lowest face that does not hold
 // and 0 where all hold, and 0 in `place`; or the refusal's number with its place, and every other output as it was.
-#[unsafe(no_mangle)]
-pub extern "C" fn welgadou_fit(
+pub fn welgadou_fit(
     divisor: u32,
     free: u32,
     wave: u32,
@@ -96,8 +94,7 @@ pub extern "C" fn welgadou_fit(
 
 // 0, with each cell's row numerator in `out` and 0 in `place`; or the refusal's number with its place, and every
 // other output as it was.
-#[unsafe(no_mangle)]
-pub extern "C" fn welgadou_rows(
+pub fn welgadou_rows(
     divisor: u32,
     free: u32,
     wave: u32,
@@ -133,8 +130,7 @@ pub extern "C" fn welgadou_rows(
 
 // 0, with the predicted numerator in `numerator` and 0 in `place`; or the refusal's number with its place, and nothing
 // else written. The mode is a whole number here, since C would cut a byte out of a larger one in silence.
-#[unsafe(no_mangle)]
-pub extern "C" fn welgadou_candidate_2(
+pub fn welgadou_candidate_2(
     divisor: u32,
     free: u32,
     wave: u32,
@@ -171,8 +167,7 @@ pub extern "C" fn welgadou_candidate_2(
 
 // 0, with the number of legal words in `words` and 0 in `place`; or the refusal's number with its place, and every
 // other output as it was.
-#[unsafe(no_mangle)]
-pub extern "C" fn welgadou_count(cells: u32, words: &mut u64, place: &mut u32) -> u32
+pub fn welgadou_count(cells: u32, words: &mut u64, place: &mut u32) -> u32
     ensures { WordsCounted cells words.old words.new place.new result }
 {
     match counting::count(cells) {

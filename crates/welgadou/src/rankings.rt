@@ -7,8 +7,7 @@ use road::Road;
 
 // 0, with the cells' numbers in `numbers`, each one's smallest change that alters the word at the same place of `changes`,
 // and 0 in `place`; or the refusal's number with its place, and every other output as it was.
-#[unsafe(no_mangle)]
-pub extern "C" fn welgadou_nearest(
+pub fn welgadou_nearest(
     divisor: u32,
     free: u32,
     wave: u32,

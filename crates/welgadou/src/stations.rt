@@ -25,8 +25,7 @@ fn estimated(road: Road, reading: StationReading, estimate: &mut f64, place: &mu
 
 // 0, with the density itself in `estimate` and 0 in `place`; or the refusal's number with its place, and every
 // other output as it was.
-#[unsafe(no_mangle)]
-pub extern "C" fn welgadou_station_density(
+pub fn welgadou_station_density(
     divisor: u32,
     free: u32,
     wave: u32,
@@ -50,8 +49,7 @@ pub extern "C" fn welgadou_station_density(
 
 // 0, with the flow divided by the speed in `estimate` and 0 in `place`; or the refusal's number with its place, and every
 // other output as it was.
-#[unsafe(no_mangle)]
-pub extern "C" fn welgadou_station_flow(
+pub fn welgadou_station_flow(
     divisor: u32,
     free: u32,
     wave: u32,
@@ -81,8 +79,7 @@ pub extern "C" fn welgadou_station_flow(
 
 // 0, with the density worked from the speed in `estimate` and 0 in `place`; or the refusal's number with its place, and every
 // other output as it was.
-#[unsafe(no_mangle)]
-pub extern "C" fn welgadou_station_speed(
+pub fn welgadou_station_speed(
     divisor: u32,
     free: u32,
     wave: u32,

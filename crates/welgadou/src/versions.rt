@@ -3,8 +3,7 @@ ghost use Rattle.std.specs.Prelude.{◌≡◌};
 ghost use Rattle.version.specs.Version.{version_number};
 
 // The version as one number: ten thousand a major, a hundred a minor version.
-#[unsafe(no_mangle)]
-pub extern "C" fn welgadou_version() -> u32
+pub fn welgadou_version() -> u32
     ensures { result ≡ version_number }
 {
     version::number()
