@@ -65,16 +65,14 @@ pub fn worked(
     shades: &mut [u8],
 ) -> bool {
     record(cells, road.jam, 0, shades);
-    let mut t = 0;
-    while t < ups.len() {
+    for t in 0..ups.len() {
         if downs.len() <= t {
             return false;
         }
         if !step(road, cells, ups[t], downs[t], caps, out) {
             return false;
         }
-        t += 1;
-        record(cells, road.jam, t, shades);
+        record(cells, road.jam, t + 1, shades);
     }
     true
 }
