@@ -25,7 +25,7 @@ use Rattle.forecast.specs.declared.forecasting.ForecastAnswer.TheVariants as F
 use Rattle.forecast.specs.declared.settling.SettleAnswer.{SettleAnswer}
 use Rattle.forecast.specs.declared.settling.SettleAnswer.TheVariants as S
 use Rattle.forecast.specs.Forecast.{InputChecked, own_of, increased, carried_on, total_check, Fits, forecast_refusal, forecast_answer, forecast_cells, forecast_meaning, meaning, Demand3, Forecasts}
-use Rattle.forecast.specs.Settle.{settle_refusal, SettleChecked, settle_answer, settle_output, settle_meaning, meaning as settle_meaning, from_zero, Settlement, Settles}
+use Rattle.forecast.specs.Settle.{settle_refusal, SettleChecked, settle_answer, settle_output, settle_meaning, meaning as settled_meaning, from_zero, Settlement, Settles}
 use Rattle.forecast.proofs.Checked.{fits_pass, forecast_call, total_decides, settle_call, full_checked}
 
 -- what an accepted forecast carries is what its answer says
@@ -149,7 +149,7 @@ module _ (r : Road) (caps cells : List ℕ) (up down t : ℕ) (out : List ℕ) w
       let k = refuses (settle_call r caps cells up down t (length out)) e n in
       record {
         answer = rw k.no (ap S.Refused e);
-        means = rw k.no (ap (λ (g : Refusal). settle_meaning (S.Refused g)) e);
+        means = rw k.no (ap (λ (g : Refusal). settled_meaning (S.Refused g)) e);
         output = rw k.no refl;
         judged = k.judged;
         settlement = λ d q. absurd (true≢false (cc q));
