@@ -1,7 +1,10 @@
 // Words: those of the arguments, and what they start with.
+ghost use Rattle.io.specs.Counts.{IsPrefixLen};
+
 use printing::page::Page;
 use printing::say;
 use std::env::FillError;
+use std::io::{Error, ErrorKind};
 use std::rt::Env;
 
 // Whether a word starts with another.
@@ -39,6 +42,21 @@ pub fn is_argument(rt: &impl Env, place: usize, wanted: &[u8]) -> bool {
     match rt.arg(place, &mut word) {
         Ok(n) => &word[..n] == wanted,
         Err(_) => false,
+    }
+}
+
+// The argument at a place, at the start of a buffer; how many bytes. None where there is none, or where it is too long.
+pub fn copied(rt: &impl Env, place: usize, buf: &mut [u8]) -> usize
+    ensures { IsPrefixLen result buf.new }
+{
+    rt.arg(place, buf).unwrap_or(0)
+}
+
+// A word as the path of a file. The system's calls take text, so a name that is none is refused.
+pub fn path(word: &[u8]) -> Result<&str, Error> {
+    match std::str::from_utf8(word) {
+        Ok(text) => Ok(text),
+        Err(_) => Err(Error::from(ErrorKind::InvalidFilename)),
     }
 }
 
