@@ -1,5 +1,7 @@
 // The arguments: [--lines] [--picture OUT.bmp] [FILE], after those of the script `welgadou`, if it starts the program.
 use super::words;
+use std::env::FillError;
+use std::rt::Env;
 
 // How many letters --picture= has.
 const PICTURE: usize = 10;
@@ -71,7 +73,7 @@ impl Options {
         }
         self.picture = i;
         self.picture_from = from;
-        self.to_output = check::same(path, b"-");
+        self.to_output = path == b"-".as_slice();
         self
     }
 
@@ -89,7 +91,7 @@ impl Options {
             return self.refused(i);
         }
         self.named = true;
-        if !check::same(word, b"-") {
+        if word != b"-".as_slice() {
             self.file = i;
         }
         self
@@ -97,13 +99,13 @@ impl Options {
 
     // Argument i where it is an option that tells about the program, or none.
     fn about_at(mut self, i: usize, word: &[u8]) -> Options {
-        if check::same(word, b"--help") {
+        if word == b"--help".as_slice() {
             self.help = true;
             self
-        } else if check::same(word, b"-h") {
+        } else if word == b"-h".as_slice() {
             self.help = true;
             self
-        } else if check::same(word, b"--version") {
+        } else if word == b"--version".as_slice() {
             self.version = true;
             self
         } else {
@@ -113,15 +115,15 @@ impl Options {
 
     // Argument i where it starts like an option.
     fn option_at(mut self, i: usize, word: &[u8]) -> Options {
-        if check::same(word, b"--lines") {
+        if word == b"--lines".as_slice() {
             self.lines = true;
             self
-        } else if check::same(word, b"--picture") {
+        } else if word == b"--picture".as_slice() {
             self.expects = true;
             self
         } else if words::starts(word, b"--picture=") {
             self.assigned_at(i, word)
-        } else if check::same(word, b"--") {
+        } else if word == b"--".as_slice() {
             self.ended = true;
             self
         } else {
@@ -141,22 +143,22 @@ impl Options {
         }
     }
 
-    // The options with argument i.
-    fn with(self, i: usize) -> Options {
+    // The options with argument i, or None where there is no such argument.
+    fn with(self, rt: &impl Env, i: usize) -> Option<Options> {
         let mut word = io::buffer();
-        let n = os::arg(i, &mut word);
-        if os::errno() != 0 {
-            return self.refused(i);
+        match rt.arg(i, &mut word) {
+            Ok(n) => Some(self.with_word(i, &word[..n])),
+            Err(FillError::TooLong) => Some(self.refused(i)),
+            Err(FillError::NotPresent) => None,
         }
-        self.with_word(i, &word[..n])
     }
 
     // The options with the script's own arguments: --for-script and the picture's temporary name, which may be empty.
-    fn of_script() -> Options {
+    fn of_script(rt: &impl Env) -> Options {
         let mut o = Options::none();
-        o.reports = words::is_argument(1, b"--for-script");
+        o.reports = words::is_argument(rt, 1, b"--for-script");
         if o.reports {
-            if !words::is_argument(2, b"") {
+            if !words::is_argument(rt, 2, b"") {
                 o.through = 2;
             }
         }
@@ -170,13 +172,13 @@ impl Options {
 }
 
 // All arguments, from first to last.
-pub fn parsed() -> Options {
-    let mut o = Options::of_script();
-    let n = os::arg_count();
-    let mut i = o.first();
-    while i < n {
-        o = o.with(i);
-        i += 1;
+pub fn parsed(rt: &impl Env) -> Options {
+    let mut o = Options::of_script(rt);
+    for i in o.first()..usize::MAX {
+        match o.with(rt, i) {
+            Some(more) => o = more,
+            None => return o,
+        }
     }
     o
 }

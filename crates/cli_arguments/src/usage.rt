@@ -1,7 +1,8 @@
 // What --help and --version print, and what a wrong argument gets.
 use super::words;
-use printing::page::Page;
+use printing::page::{Page, Streams};
 use printing::{page, say};
+use std::rt::Env;
 
 fn synopsis(page: &mut Page) {
     say::text(
@@ -113,13 +114,13 @@ pub fn version(page: &mut Page) {
 }
 
 // An argument that is not understood.
-pub fn refused(place: usize) {
-    let mut page = page::open(page::ERRORS);
+pub fn refused(rt: &impl Env, streams: Streams, place: usize) {
+    let mut page = page::open(streams, page::ERRORS);
     say(&mut page, UNEXPECTED, 0, 0, 0);
-    if words::is_argument(place, b"") {
+    if words::is_argument(rt, place, b"") {
         say(&mut page, EMPTY, 0, 0, 0);
     } else {
-        words::show(&mut page, place, say::WORD);
+        words::show(rt, &mut page, place, say::WORD);
     }
     page::put(&mut page, b'\n');
     say(&mut page, USAGE, 0, 0, 0);
@@ -127,8 +128,8 @@ pub fn refused(place: usize) {
 }
 
 // --picture as the last argument, or with an empty path.
-pub fn without_path() {
-    let mut page = page::open(page::ERRORS);
+pub fn without_path(streams: Streams) {
+    let mut page = page::open(streams, page::ERRORS);
     say(&mut page, NO_PATH, 0, 0, 0);
     say(&mut page, USAGE, 0, 0, 0);
     page::sent(&mut page);

@@ -1,18 +1,21 @@
 // Words: those of the arguments, and what they start with.
+ghost use Rattle.io.specs.Counts.{IsPrefixLen};
+
 use printing::page::Page;
 use printing::say;
+use std::env::FillError;
+use std::io::{Error, ErrorKind};
+use std::rt::Env;
 
 // Whether a word starts with another.
 pub fn starts(word: &[u8], with: &[u8]) -> bool {
     if word.len() < with.len() {
         return false;
     }
-    let mut i = 0;
-    while i < with.len() {
+    for i in 0..with.len() {
         if word[i] != with[i] {
             return false;
         }
-        i += 1;
     }
     true
 }
@@ -34,22 +37,35 @@ pub fn is_option(word: &[u8]) -> bool {
 }
 
 // Whether the argument at a place is this word.
-pub fn is_argument(place: usize, wanted: &[u8]) -> bool {
+pub fn is_argument(rt: &impl Env, place: usize, wanted: &[u8]) -> bool {
     let mut word = io::buffer();
-    let n = os::arg(place, &mut word);
-    if os::errno() != 0 {
-        return false;
+    match rt.arg(place, &mut word) {
+        Ok(n) => &word[..n] == wanted,
+        Err(_) => false,
     }
-    check::same(&word[..n], wanted)
+}
+
+// The argument at a place, at the start of a buffer; how many bytes. None where there is none, or where it is too long.
+pub fn copied(rt: &impl Env, place: usize, buf: &mut [u8]) -> usize
+    ensures { IsPrefixLen result buf.new }
+{
+    rt.arg(place, buf).unwrap_or(0)
+}
+
+// A word as the path of a file. The system's calls take text, so a name that is none is refused.
+pub fn path(word: &[u8]) -> Result<&str, Error> {
+    match std::str::from_utf8(word) {
+        Ok(text) => Ok(text),
+        Err(_) => Err(Error::from(ErrorKind::InvalidFilename)),
+    }
 }
 
 // The argument at a place, up to so many bytes. One that is too long for a path has its start in the buffer.
-pub fn show(page: &mut Page, place: usize, most: usize) {
+pub fn show(rt: &impl Env, page: &mut Page, place: usize, most: usize) {
     let mut word = io::buffer();
-    let n = os::arg(place, &mut word);
-    if os::errno() == libc::ENAMETOOLONG {
-        say::shown(page, &word, most);
-    } else {
-        say::shown(page, &word[..n], most);
+    match rt.arg(place, &mut word) {
+        Ok(n) => say::shown(page, &word[..n], most),
+        Err(FillError::TooLong) => say::shown(page, &word, most),
+        Err(FillError::NotPresent) => {}
     }
 }

@@ -12,6 +12,7 @@ use printing::page::Page;
 use printing::{page, say};
 use road::Road;
 use rows::Sizes;
+use std::rt::{Env, Files};
 
 // What is printed, one form a line (`printing::say::form`).
 const FORMS: [u8; 76] = *b"done picture % %|
@@ -36,11 +37,18 @@ fn report(page: &mut Page, lines: bool, s: Sizes) {
 }
 
 // The picture saved; the status. What was said before goes out first.
-fn saved_and_told(page: &mut Page, o: Options, shades: &[u8], s: Sizes) -> u8 {
+fn saved_and_told<R: Env + Files>(
+    rt: &R,
+    page: &mut Page,
+    o: Options,
+    shades: &[u8],
+    s: Sizes,
+) -> u8 {
     page::sent(page);
     let mut word = io::buffer();
-    let k = os::arg(o.picture, &mut word);
-    if !files::saved(o, words::behind(&word[..k], o.picture_from), shades, s) {
+    let k = words::copied(rt, o.picture, &mut word);
+    let path = words::behind(&word[..k], o.picture_from);
+    if !files::saved(rt, page::streams_of(page), o, path, shades, s) {
         return status::FILE;
     }
     report(page, o.lines, s);
@@ -48,7 +56,8 @@ fn saved_and_told(page: &mut Page, o: Options, shades: &[u8], s: Sizes) -> u8 {
 }
 
 // The picture of a forecast that was made; the status. The two lists of cells are used up.
-pub fn act(
+pub fn act<R: Env + Files>(
+    rt: &R,
     page: &mut Page,
     o: Options,
     road: Road,
@@ -63,5 +72,5 @@ pub fn act(
         return status::REFUSED;
     }
     let s = rows::measured(cells.len(), ups.len() + 1);
-    saved_and_told(page, o, &shades, s)
+    saved_and_told(rt, page, o, &shades, s)
 }

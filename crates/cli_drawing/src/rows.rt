@@ -1,6 +1,7 @@
-// The rows of the picture, lowest cell first, written to a descriptor.
+// The rows of the picture, lowest cell first, written to a file or a stream.
 use super::steps::{CELLS, STEPS};
 use cli_request::{buffers, numbers};
+use std::io::{Error, ErrorKind, Write};
 
 // The pixels that the picture comes to about, where blocks of whole pixels allow it.
 const WIDE: u32 = 1024;
@@ -44,64 +45,58 @@ pub fn measured(cells: usize, columns: usize) -> Sizes {
 }
 
 // A row, as often as a cell is high.
-fn repeated(fd: i32, row: &[u8], upward: u32) -> bool {
-    let mut i = 0;
-    while i < upward {
-        if !io::write_all(fd, row) {
-            return false;
-        }
-        i += 1;
+fn repeated<W: Write>(to: &mut W, row: &[u8], upward: u32) -> Result<(), Error> {
+    for _ in 0..upward {
+        to.write_all(row)?;
     }
-    true
+    Ok(())
 }
 
-fn stretched(fd: i32, shades: &[u8], s: Sizes, row: &mut [u8]) -> bool {
+fn stretched<W: Write>(to: &mut W, shades: &[u8], s: Sizes, row: &mut [u8]) -> Result<(), Error> {
     cli_picture::stretch(shades, s.across, row);
-    repeated(fd, row, s.upward)
+    repeated(to, row, s.upward)
 }
 
 // The rows of one cell.
-fn drawn_cell(fd: i32, shades: &[u8], s: Sizes) -> bool {
+fn drawn_cell<W: Write>(to: &mut W, shades: &[u8], s: Sizes) -> Result<(), Error> {
     let mut row = buffers::row();
     let n = numbers::within_codes(s.bytes, &row);
-    stretched(fd, shades, s, &mut row[..n])
+    stretched(to, shades, s, &mut row[..n])
+}
+
+// Of a cell or a step that the shades have no room for.
+fn beyond() -> Error {
+    Error::from(ErrorKind::InvalidInput)
 }
 
 // The rows of cell i, counted from 0.
-fn drawn(fd: i32, shades: &[u8], i: usize, s: Sizes) -> bool {
+fn drawn<W: Write>(to: &mut W, shades: &[u8], i: usize, s: Sizes) -> Result<(), Error> {
     let columns = s.columns;
     if CELLS <= i {
-        return false;
+        return Err(beyond());
     }
     if STEPS < columns {
-        return false;
+        return Err(beyond());
     }
     let a = i * STEPS;
     let e = a + columns;
     if shades.len() < e {
-        return false;
+        return Err(beyond());
     }
-    drawn_cell(fd, &shades[a..e], s)
+    drawn_cell(to, &shades[a..e], s)
 }
 
 // All rows, the lowest cell first.
-fn drawn_all(fd: i32, shades: &[u8], s: Sizes) -> bool {
-    let n = s.cells;
-    let mut i = 0;
-    while i < n {
-        if !drawn(fd, shades, i, s) {
-            return false;
-        }
-        i += 1;
+fn drawn_all<W: Write>(to: &mut W, shades: &[u8], s: Sizes) -> Result<(), Error> {
+    for i in 0..s.cells {
+        drawn(to, shades, i, s)?;
     }
-    true
+    Ok(())
 }
 
-pub fn written(fd: i32, shades: &[u8], s: Sizes) -> bool {
+pub fn written<W: Write>(to: &mut W, shades: &[u8], s: Sizes) -> Result<(), Error> {
     let mut start = buffers::start();
     cli_picture::write_start(s.width, s.height, &mut start);
-    if !io::write_all(fd, &start) {
-        return false;
-    }
-    drawn_all(fd, shades, s)
+    to.write_all(&start)?;
+    drawn_all(to, shades, s)
 }

@@ -4,8 +4,9 @@ use super::{needs, pointing};
 use cli_arguments::words;
 use cli_request::{codes, keys};
 use cli_scenario::Verdict;
-use printing::page::Page;
+use printing::page::{Page, Streams};
 use printing::{page, say};
+use std::rt::Env;
 
 // What was expected, in the line of each verdict; behind them what goes with one, and what is said of the actions.
 const FORMS: [u8; 845] = *b"
@@ -107,11 +108,11 @@ fn say(page: &mut Page, form: usize, n: u64) {
 }
 
 // The name of the text, which is the argument at a place or standard input, and the line, as compilers say it.
-fn start(page: &mut Page, file: usize, line: u64) {
+fn start(rt: &impl Env, page: &mut Page, file: usize, line: u64) {
     if file == 0 {
         say(page, STANDARD_INPUT, 0);
     } else {
-        words::show(page, file, say::NAME);
+        words::show(rt, page, file, say::NAME);
     }
     say(page, ERROR, line);
 }
@@ -205,9 +206,9 @@ fn found(page: &mut Page, text: &[u8], v: Verdict) {
 }
 
 // What is wrong with a text.
-pub fn wrong_text(file: usize, text: &[u8], v: Verdict) {
-    let mut page = page::open(page::ERRORS);
-    start(&mut page, file, v.line);
+pub fn wrong_text(rt: &impl Env, streams: Streams, file: usize, text: &[u8], v: Verdict) {
+    let mut page = page::open(streams, page::ERRORS);
+    start(rt, &mut page, file, v.line);
     say(&mut page, EXPECTED, 0);
     expected(&mut page, v);
     found(&mut page, text, v);
@@ -229,10 +230,10 @@ fn lacking(page: &mut Page, text: &[u8], action: usize) {
 }
 
 // What an action needs and does not have.
-pub fn needs(file: usize, text: &[u8], action: usize) {
+pub fn needs(rt: &impl Env, streams: Streams, file: usize, text: &[u8], action: usize) {
     let key = keys::action(action);
-    let mut page = page::open(page::ERRORS);
-    start(&mut page, file, cli_scenario::line_of(text, key));
+    let mut page = page::open(streams, page::ERRORS);
+    start(rt, &mut page, file, cli_scenario::line_of(text, key));
     keys::name(&mut page, key);
     say(&mut page, NEEDS, 0);
     lacking(&mut page, text, action);
@@ -241,9 +242,9 @@ pub fn needs(file: usize, text: &[u8], action: usize) {
 }
 
 // A message on the first line of a key.
-pub fn at(file: usize, text: &[u8], key: u8, form: usize) {
-    let mut page = page::open(page::ERRORS);
-    start(&mut page, file, cli_scenario::line_of(text, key));
+pub fn at(rt: &impl Env, streams: Streams, file: usize, text: &[u8], key: u8, form: usize) {
+    let mut page = page::open(streams, page::ERRORS);
+    start(rt, &mut page, file, cli_scenario::line_of(text, key));
     say(&mut page, form, 0);
     page::put(&mut page, b'\n');
     page::sent(&mut page);

@@ -2,9 +2,13 @@
 ghost use Rattle.std.specs.Prelude.{◌≡◌, ◌<◌, ◌≤◌, length};
 ghost use Rattle.io.specs.Counts.{IsPrefixLen};
 
+use cli_arguments::words;
 use cli_request::status;
-use libc::STDIN_FILENO;
+use printing::page::Streams;
 use printing::{page, say};
+use std::fs::File;
+use std::io::{Error, Input, Read};
+use std::rt::{Env, Files};
 
 // How much was read, and whether that is all.
 #[derive(Clone, Copy)]
@@ -20,10 +24,10 @@ fn nothing(status: u8) -> Got
 }
 
 // One read behind the n bytes that are there.
-fn more(fd: i32, buf: &mut [u8], n: usize) -> isize
+fn more<R: Read>(from: &mut R, buf: &mut [u8], n: usize) -> Result<usize, Error>
     requires { n ≤ length buf.old }
 {
-    libc::read(fd, &mut buf[n..])
+    from.read(&mut buf[n..])
 }
 
 // The place behind what a read brought.
@@ -37,11 +41,11 @@ fn advanced(n: usize, k: usize, most: usize) -> usize
 }
 
 // What a read that brought nothing says: the end of the text, or a failure.
-fn finished(path: &[u8], got: isize, n: usize) -> Got
+fn finished(streams: Streams, path: &[u8], got: Result<usize, Error>, n: usize) -> Got
     ensures { result.count ≤ n }
 {
-    if got < 0 {
-        say::fail(path);
+    if let Err(e) = got {
+        say::fail(streams.errors, path, e);
         return nothing(status::FILE);
     }
     Got {
@@ -50,8 +54,8 @@ fn finished(path: &[u8], got: isize, n: usize) -> Got
     }
 }
 
-fn too_long(path: &[u8]) {
-    let mut page = page::open(page::ERRORS);
+fn too_long(streams: Streams, path: &[u8]) {
+    let mut page = page::open(streams, page::ERRORS);
     say::shown(&mut page, path, say::NAME);
     say::text(
         &mut page,
@@ -60,44 +64,46 @@ fn too_long(path: &[u8]) {
     page::sent(&mut page);
 }
 
-// All that a descriptor gives, where it leaves room; otherwise a message.
-fn filled(fd: i32, path: &[u8], buf: &mut [u8]) -> Got
+// All that a reader gives, where it leaves room; otherwise a message.
+fn filled<R: Read>(from: &mut R, streams: Streams, path: &[u8], buf: &mut [u8]) -> Got
     ensures { IsPrefixLen result.count buf.new }
 {
     let mut n = 0;
     while n < buf.len() {
-        let got = more(fd, buf, n);
-        let k = io::count(got, buf);
-        if k == 0 {
-            return finished(path, got, n);
+        match more(from, buf, n) {
+            Ok(k) if 0 < k => n = advanced(n, k, buf.len()),
+            got => return finished(streams, path, got, n),
         }
-        n = advanced(n, k, buf.len());
     }
-    too_long(path);
+    too_long(streams, path);
     nothing(status::TEXT)
 }
 
-fn opened(path: &[u8], buf: &mut [u8]) -> Got
+// The file of a path, open for reading.
+fn open<R: Files>(rt: &R, path: &[u8]) -> Result<R::File, Error> {
+    File::open(rt, words::path(path)?)
+}
+
+fn opened<R: Files>(rt: &R, streams: Streams, path: &[u8], buf: &mut [u8]) -> Got
     ensures { IsPrefixLen result.count buf.new }
 {
-    let fd = os::open_read(path);
-    if fd < 0 {
-        say::fail(path);
-        return nothing(status::FILE);
+    match open(rt, path) {
+        Ok(mut file) => filled(&mut file, streams, path, buf),
+        Err(e) => {
+            say::fail(streams.errors, path, e);
+            nothing(status::FILE)
+        }
     }
-    let got = filled(fd, path, buf);
-    libc::close(fd);
-    got
 }
 
 // The text that the argument at a place names, or standard input for place 0.
-pub fn read(place: usize, buf: &mut [u8]) -> Got
+pub fn read<R: Env + Files + Input>(rt: &R, streams: Streams, place: usize, buf: &mut [u8]) -> Got
     ensures { IsPrefixLen result.count buf.new }
 {
     if place == 0 {
-        return filled(STDIN_FILENO, b"standard input", buf);
+        return filled(&mut rt.reader(), streams, b"standard input", buf);
     }
     let mut path = io::buffer();
-    let n = os::arg(place, &mut path);
-    opened(&path[..n], buf)
+    let n = words::copied(rt, place, &mut path);
+    opened(rt, streams, &path[..n], buf)
 }

@@ -3,6 +3,8 @@ use super::errors;
 use cli_arguments::options::Options;
 use cli_request::keys::{ACTIONS, NONE, is_given};
 use cli_request::{codes, keys, numbers};
+use printing::page::Streams;
+use std::rt::Env;
 
 // How many keys an action needs at most.
 pub const MOST: usize = 6;
@@ -106,58 +108,79 @@ fn has_keys(text: &[u8], action: usize) -> bool {
 }
 
 // Exactly one of estimates and bits.
-fn estimates(file: usize, text: &[u8]) -> bool {
+fn estimates(rt: &impl Env, streams: Streams, file: usize, text: &[u8]) -> bool {
     let whole = is_given(text, codes::ESTIMATES);
     if whole != is_given(text, codes::BITS) {
         return true;
     }
     if whole {
-        errors::at(file, text, codes::CANDIDATE, errors::BOTH_ESTIMATES);
+        errors::at(
+            rt,
+            streams,
+            file,
+            text,
+            codes::CANDIDATE,
+            errors::BOTH_ESTIMATES,
+        );
     } else {
-        errors::at(file, text, codes::CANDIDATE, errors::NO_ESTIMATES);
+        errors::at(
+            rt,
+            streams,
+            file,
+            text,
+            codes::CANDIDATE,
+            errors::NO_ESTIMATES,
+        );
     }
     false
 }
 
 // A density alone, a flow and a speed, or a speed alone.
-fn reading(file: usize, text: &[u8]) -> bool {
+fn reading(rt: &impl Env, streams: Streams, file: usize, text: &[u8]) -> bool {
     if is_given(text, codes::DENSITY) {
         if is_given(text, codes::FLOW) {
-            return mixed(file, text);
+            return mixed(rt, streams, file, text);
         }
         if is_given(text, codes::SPEED) {
-            return mixed(file, text);
+            return mixed(rt, streams, file, text);
         }
         return true;
     }
     if is_given(text, codes::SPEED) {
         return true;
     }
-    errors::at(file, text, codes::STATION, errors::NO_READING);
+    errors::at(rt, streams, file, text, codes::STATION, errors::NO_READING);
     false
 }
 
-fn mixed(file: usize, text: &[u8]) -> bool {
-    errors::at(file, text, codes::STATION, errors::MIXED_READING);
+fn mixed(rt: &impl Env, streams: Streams, file: usize, text: &[u8]) -> bool {
+    errors::at(
+        rt,
+        streams,
+        file,
+        text,
+        codes::STATION,
+        errors::MIXED_READING,
+    );
     false
 }
 
 // Whether an action that is asked for has what it needs; it gets a message where it has not.
-fn has(file: usize, text: &[u8], action: usize) -> bool {
+fn has(rt: &impl Env, streams: Streams, file: usize, text: &[u8], action: usize) -> bool {
     if !has_keys(text, action) {
-        errors::needs(file, text, action);
+        errors::needs(rt, streams, file, text, action);
         return false;
     }
     let key = keys::action(action);
     match key {
-        codes::CANDIDATE => estimates(file, text),
-        codes::STATION => reading(file, text),
+        codes::CANDIDATE => estimates(rt, streams, file, text),
+        codes::STATION => reading(rt, streams, file, text),
         _ => true,
     }
 }
 
 // Whether the text asks for something.
-fn asks(file: usize, text: &[u8]) -> bool {
+fn asks(rt: &impl Env, streams: Streams, file: usize, text: &[u8]) -> bool {
     let mut i = 0;
     while i < ACTIONS {
         if is_given(text, keys::action(i)) {
@@ -165,28 +188,28 @@ fn asks(file: usize, text: &[u8]) -> bool {
         }
         i += 1;
     }
-    errors::at(file, text, codes::END, errors::NO_ACTION);
+    errors::at(rt, streams, file, text, codes::END, errors::NO_ACTION);
     false
 }
 
 // Whether a picture, where one is asked for, has its forecast.
-fn picture(o: Options, text: &[u8]) -> bool {
+fn picture(rt: &impl Env, streams: Streams, o: Options, text: &[u8]) -> bool {
     if o.picture == 0 {
         return true;
     }
     if is_given(text, codes::FORECAST) {
         return true;
     }
-    errors::at(o.file, text, codes::END, errors::NO_FORECAST);
+    errors::at(rt, streams, o.file, text, codes::END, errors::NO_FORECAST);
     false
 }
 
 // Whether every action that the text asks for has what it needs; the first one that has not gets a message.
-fn all_have(file: usize, text: &[u8]) -> bool {
+fn all_have(rt: &impl Env, streams: Streams, file: usize, text: &[u8]) -> bool {
     let mut i = 0;
     while i < ACTIONS {
         if is_given(text, keys::action(i)) {
-            if !has(file, text, i) {
+            if !has(rt, streams, file, text, i) {
                 return false;
             }
         }
@@ -196,12 +219,12 @@ fn all_have(file: usize, text: &[u8]) -> bool {
 }
 
 // Whether a text can be acted on: it asks for something, and for nothing that it does not give what it needs.
-pub fn met(o: Options, text: &[u8]) -> bool {
-    if !asks(o.file, text) {
+pub fn met(rt: &impl Env, streams: Streams, o: Options, text: &[u8]) -> bool {
+    if !asks(rt, streams, o.file, text) {
         return false;
     }
-    if !picture(o, text) {
+    if !picture(rt, streams, o, text) {
         return false;
     }
-    all_have(o.file, text)
+    all_have(rt, streams, o.file, text)
 }

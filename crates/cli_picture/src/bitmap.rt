@@ -21,6 +21,7 @@ pub fn byte_of(n: u32, i: usize) -> u8
 }
 
 // Number k of the thirteen that follow the two letters.
+#[tactic(auto, unfolding(crate::specs::Bitmap::header_word))]
 fn header_word(k: usize, width: u16, height: u16) -> u32
     requires { k < 13 }
     ensures { result ≡ header_word width height k }
@@ -45,6 +46,7 @@ fn header_word(k: usize, width: u16, height: u16) -> u32
 }
 
 // Byte k of the palette: blue, green, red and a zero for each shade.
+#[tactic(auto, unfolding(crate::specs::Bitmap::palette_byte))]
 fn palette_byte(k: usize) -> u8
     requires { k < 1024 }
     ensures { result ≡ palette_byte k }
@@ -69,6 +71,7 @@ fn letter_byte(at: usize) -> u8
 }
 
 // Byte `at` of a file of width times height pixels, up to its first row.
+#[tactic(auto, unfolding(crate::specs::Bitmap::start_byte))]
 pub fn start_byte(width: u16, height: u16, at: usize) -> u8
     ensures { result ≡ start_byte width height at }
 {

@@ -4,6 +4,7 @@ ghost use Rattle.cli_picture.specs.Listed.{listed};
 ghost use Rattle.cli_picture.specs.Bitmap.{pixel_of};
 
 // The shade at pixel x, and 0 past the last step.
+#[tactic(auto, unfolding(crate::specs::Bitmap::pixel_of))]
 fn pixel(shades: &[u8], across: u32, x: usize) -> u8
     ensures { result ≡ pixel_of shades.now across x }
 {

@@ -9,6 +9,7 @@ use printing::page::Page;
 use printing::{lists, page};
 use road::Road;
 use scheme::Totals;
+use std::rt::{Env, Files};
 
 fn report(page: &mut Page, lines: bool, d: Record, horizon: u32, caps: &[u32], cells: &[u32]) {
     let n = cells.len() as u64;
@@ -68,7 +69,8 @@ fn made(
 }
 
 // The forecast and, once it was made, its picture where one is asked for; the status.
-fn made_and_drawn(
+fn made_and_drawn<R: Env + Files>(
+    rt: &R,
     page: &mut Page,
     o: Options,
     road: Road,
@@ -89,11 +91,11 @@ fn made_and_drawn(
     if o.picture == 0 {
         return status::DONE;
     }
-    cli_drawing::act(page, o, road, cells, ups, downs, caps, out)
+    cli_drawing::act(rt, page, o, road, cells, ups, downs, caps, out)
 }
 
 // The forecast of a text; the status.
-pub fn act(page: &mut Page, o: Options, text: &[u8]) -> u8 {
+pub fn act<R: Env + Files>(rt: &R, page: &mut Page, o: Options, text: &[u8]) -> u8 {
     let mut cells = buffers::cells();
     let mut ups = buffers::ends();
     let mut downs = buffers::ends();
@@ -105,6 +107,7 @@ pub fn act(page: &mut Page, o: Options, text: &[u8]) -> u8 {
     let c = caps::list(text, n, &mut caps);
     let m = numbers::within(n, &out);
     made_and_drawn(
+        rt,
         page,
         o,
         numbers::road(text),

@@ -9,11 +9,12 @@ use cli_runs::{forecasts, settlings};
 use cli_site::{rankings, stations};
 use printing::page;
 use printing::page::Page;
+use std::rt::{Env, Files};
 
 // One action of the text; the status.
-fn done(page: &mut Page, o: Options, text: &[u8], action: u8) -> u8 {
+fn done<R: Env + Files>(rt: &R, page: &mut Page, o: Options, text: &[u8], action: u8) -> u8 {
     match action {
-        codes::FORECAST => forecasts::act(page, o, text),
+        codes::FORECAST => forecasts::act(rt, page, o, text),
         codes::SETTLE => settlings::act(page, o.lines, text),
         codes::READ => states::act(page, o.lines, text),
         codes::FIT => fits::act(page, o.lines, text),
@@ -27,22 +28,20 @@ fn done(page: &mut Page, o: Options, text: &[u8], action: u8) -> u8 {
 }
 
 // An action where the text asks for it; the status. What it wrote goes out before the next one begins.
-fn asked(page: &mut Page, o: Options, text: &[u8], action: u8) -> u8 {
+fn asked<R: Env + Files>(rt: &R, page: &mut Page, o: Options, text: &[u8], action: u8) -> u8 {
     if !is_given(text, action) {
         return status::DONE;
     }
-    let status = done(page, o, text, action);
+    let status = done(rt, page, o, text, action);
     page::sent(page);
     status
 }
 
 // All actions that the text asks for; the worst status.
-pub fn all(page: &mut Page, o: Options, text: &[u8]) -> u8 {
+pub fn all<R: Env + Files>(rt: &R, page: &mut Page, o: Options, text: &[u8]) -> u8 {
     let mut status = status::DONE;
-    let mut i = 0;
-    while i < keys::ACTIONS {
-        status = worst(status, asked(page, o, text, keys::action(i)));
-        i += 1;
+    for i in 0..keys::ACTIONS {
+        status = worst(status, asked(rt, page, o, text, keys::action(i)));
     }
     status
 }

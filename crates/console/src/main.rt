@@ -9,19 +9,21 @@ use cli_intake::{errors, input, needs};
 use cli_request::status::worst;
 use cli_request::{buffers, status};
 use printing::page;
-use printing::page::Page;
+use printing::page::{Page, Streams};
+use std::io::Input;
+use std::rt::{Env, Files};
 
 // A good text whose actions have all that they need is acted on; anything else gets one message and no result.
-fn work(page: &mut Page, o: Options, text: &[u8]) -> u8 {
+fn work<R: Env + Files>(rt: &R, page: &mut Page, o: Options, text: &[u8]) -> u8 {
     let verdict = cli_scenario::judge(text);
     if verdict.what != 0 {
-        errors::wrong_text(o.file, text, verdict);
+        errors::wrong_text(rt, page::streams_of(page), o.file, text, verdict);
         return status::TEXT;
     }
-    if !needs::met(o, text) {
+    if !needs::met(rt, page::streams_of(page), o, text) {
         return status::TEXT;
     }
-    actions::all(page, o, text)
+    actions::all(rt, page, o, text)
 }
 
 // A text without the byte order mark that some editors put before it.
@@ -33,18 +35,18 @@ fn unmarked(text: &[u8]) -> &[u8] {
     }
 }
 
-fn read_and_work(page: &mut Page, o: Options) -> u8 {
+fn read_and_work<R: Env + Files + Input>(rt: &R, page: &mut Page, o: Options) -> u8 {
     let mut text = buffers::text();
-    let got = input::read(o.file, &mut text);
+    let got = input::read(rt, page::streams_of(page), o.file, &mut text);
     let n = got.count;
     if got.status != status::DONE {
         return got.status;
     }
-    work(page, o, unmarked(&text[..n]))
+    work(rt, page, o, unmarked(&text[..n]))
 }
 
 // What the arguments ask for; the status.
-fn asked(page: &mut Page, o: Options) -> u8 {
+fn asked<R: Env + Files + Input>(rt: &R, page: &mut Page, o: Options) -> u8 {
     if o.help {
         usage::help(page);
         status::DONE
@@ -52,16 +54,16 @@ fn asked(page: &mut Page, o: Options) -> u8 {
         usage::version(page);
         status::DONE
     } else if o.bad != 0 {
-        usage::refused(o.bad);
+        usage::refused(rt, page::streams_of(page), o.bad);
         status::TEXT
     } else if o.expects {
-        usage::without_path();
+        usage::without_path(page::streams_of(page));
         status::TEXT
     } else if o.pathless {
-        usage::without_path();
+        usage::without_path(page::streams_of(page));
         status::TEXT
     } else {
-        read_and_work(page, o)
+        read_and_work(rt, page, o)
     }
 }
 
@@ -75,9 +77,9 @@ fn results(o: Options) -> u8 {
 }
 
 // The status of the whole run, lost output included.
-fn run(o: Options) -> u8 {
-    let mut page = page::open(results(o));
-    let status = asked(&mut page, o);
+fn run<R: Env + Files + Input>(rt: &R, streams: Streams, o: Options) -> u8 {
+    let mut page = page::open(streams, results(o));
+    let status = asked(rt, &mut page, o);
     if page::sent(&mut page) {
         status
     } else {
@@ -85,10 +87,14 @@ fn run(o: Options) -> u8 {
     }
 }
 
-fn main() {
-    let o = options::parsed();
-    let status = run(o);
+fn main(rt: HostRuntime) {
+    let streams = Streams {
+        output: rt.stdout(),
+        errors: rt.stderr(),
+    };
+    let o = options::parsed(&rt);
+    let status = run(&rt, streams, o);
     if o.reports {
-        status::report(status);
+        status::report(&rt, status);
     }
 }

@@ -2,44 +2,44 @@
 #![tactic(auto)]
 
 use forecast::ForecastAnswer;
-use libc::STDOUT_FILENO;
 use road::Road;
 use scheme::{OPEN, Totals};
+use std::io;
 
-fn text(s: &[u8]) {
-    io::write_all(STDOUT_FILENO, s);
+fn text(rt: &impl Print, s: &str) -> io::Result<()> {
+    rt.print(s)
 }
 
-fn number(n: u64) {
-    io::print_decimal(STDOUT_FILENO, n);
+fn number(rt: &impl Print, n: u64) -> io::Result<()> {
+    rt.print(n)
 }
 
-fn say_cell(x: u32) {
-    text(b" ");
-    number(x as u64);
+fn say_cell(rt: &impl Print, x: u32) -> io::Result<()> {
+    text(rt, " ")?;
+    number(rt, x as u64)
 }
 
-fn say_done(entered: u64, left: u64, cells: &[u32; 3]) {
-    text(b"entered ");
-    number(entered);
-    text(b", left ");
-    number(left);
-    text(b", cells");
-    say_cell(cells[0]);
-    say_cell(cells[1]);
-    say_cell(cells[2]);
-    text(b"\n");
+fn say_done(rt: &impl Print, entered: u64, left: u64, cells: &[u32; 3]) -> io::Result<()> {
+    text(rt, "entered ")?;
+    number(rt, entered)?;
+    text(rt, ", left ")?;
+    number(rt, left)?;
+    text(rt, ", cells")?;
+    say_cell(rt, cells[0])?;
+    say_cell(rt, cells[1])?;
+    say_cell(rt, cells[2])?;
+    text(rt, "\n")
 }
 
-fn say_refused(refusal: u32, place: u32) {
-    text(b"refused ");
-    number(refusal as u64);
-    text(b" at ");
-    number(place as u64);
-    text(b"\n");
+fn say_refused(rt: &impl Print, refusal: u32, place: u32) -> io::Result<()> {
+    text(rt, "refused ")?;
+    number(rt, refusal as u64)?;
+    text(rt, " at ")?;
+    number(rt, place as u64)?;
+    text(rt, "\n")
 }
 
-fn main() {
+fn main(rt: HostRuntime) -> io::Result<()> {
     let road = Road {
         divisor: 5,
         free: 4,
@@ -64,7 +64,7 @@ fn main() {
         totals,
         &mut out,
     ) {
-        ForecastAnswer::Done(record) => say_done(record.own.entered, record.own.left, &out),
-        ForecastAnswer::Refused(refusal) => say_refused(refusal.number, refusal.place),
+        ForecastAnswer::Done(record) => say_done(&rt, record.own.entered, record.own.left, &out),
+        ForecastAnswer::Refused(refusal) => say_refused(&rt, refusal.number, refusal.place),
     }
 }

@@ -5,6 +5,7 @@ ghost use Rattle.modes.specs.Modes.{mode_of};
 use flux::{L, W};
 
 // Internal: the mode of a cell between the letters s and t, of a legal pair.
+#[tactic(auto, unfolding(crate::specs::Modes::mode_of))]
 pub fn mode_of(s: u8, t: u8) -> u8
     ensures { result ≡ mode_of s t }
 {

@@ -19,6 +19,7 @@ fn count_of(mode: u8, modes: &[u8]) -> u32
 }
 
 // Internal: how many of the modes are 1, 2 and so on to 7: a pass for each, which takes the same time for every state.
+#[tactic(auto, unfolding(crate::specs::Reading::counts_of))]
 pub fn tally(modes: &[u8]) -> [u32; 7]
     requires { length modes.now ≤ cells_ceiling }
     ensures { result ≡ counts_of modes.now }

@@ -6,7 +6,7 @@ use native.Mathlib.Nat.{le_refl, le_antisymm, lt_of_not-le, suc_inj}
 use native.Mathlib.Decide.{dec_le}
 use native.Mathlib.Omega.{arith}
 use lib.Dec.{leb, le→leb}
-use lib.IntN.{ℤ, pos, negsuc, neg_ℤ, nat_abs, ◌+ℤ◌, ◌-ℤ◌, +ℤ_comm, +ℤ-neg_ℤ_cancel, pos-+ℤ-pos}
+use lib.IntN.{ℤ, pos, negsuc, neg_ℤ, nat_abs, ◌-ℤ◌, +ℤ_comm, +ℤ-neg_ℤ_cancel, pos-+ℤ-pos}
 use lib.Signed.{◌≤ℤ◌, le_z_yes}
 use borrow.Author.Tests.{leb-true, le-leb}
 use Rattle.choice.specs.Choice.{both}

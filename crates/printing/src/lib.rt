@@ -5,3 +5,4 @@ pub mod doubles;
 pub mod lists;
 pub mod page;
 pub mod say;
+mod system;

@@ -72,39 +72,31 @@ fn wide(x: u32) -> u64 {
 
 // The densities of the cells, from cell 1.
 pub fn densities(page: &mut Page, lines: bool, xs: &[u32]) {
-    let mut i = 0;
-    while i < xs.len() {
+    for i in 0..xs.len() {
         entry(page, lines, i, wide(xs[i]));
-        i += 1;
     }
     after(page, lines);
 }
 
 // The modes of the cells, from cell 1, or the letters of the faces, from face 0.
 pub fn codes(page: &mut Page, lines: bool, are_letters: bool, xs: &[u8]) {
-    let mut i = 0;
-    while i < xs.len() {
+    for i in 0..xs.len() {
         code_entry(page, lines, are_letters, i, xs[i]);
-        i += 1;
     }
     after(page, lines);
 }
 
 // The changes of the cells at their places of a ranking, on a line.
 pub fn changes(page: &mut Page, xs: &[i32]) {
-    let mut i = 0;
-    while i < xs.len() {
+    for i in 0..xs.len() {
         signed_entry(page, true, i, say::widened(xs[i]));
-        i += 1;
     }
 }
 
 // The numerators of the cells, from cell 1.
 pub fn numerators(page: &mut Page, lines: bool, xs: &[i64]) {
-    let mut i = 0;
-    while i < xs.len() {
+    for i in 0..xs.len() {
         signed_entry(page, lines, i, xs[i]);
-        i += 1;
     }
     after(page, lines);
 }

@@ -1,100 +1,89 @@
-// A page: what is to be written to a descriptor, gathered until the page is full or is sent, and whether all of it went out.
+// A page: what is to be written to a stream, gathered until the page is full or is sent, and whether all of it went out.
+ghost use Rattle.std.specs.Prelude.{◌≤◌};
 
-// The descriptor, 1 once something was lost, the place behind the last byte in two bytes, and then the bytes themselves:
-// the language has no struct that is lent.
-pub type Page = [u8; 4096];
+use super::system;
+use std::io::{Error, Print};
+use std::rt::{Stderr, Stdout};
 
-// The descriptors of standard output and standard error.
+// The streams that a program writes to.
+#[derive(Clone, Copy)]
+pub struct Streams {
+    pub output: Stdout,
+    pub errors: Stderr,
+}
+
+// The streams that a program's results go to.
 pub const OUTPUT: u8 = 1;
 
 pub const ERRORS: u8 = 2;
 
 const SIZE: usize = 4096;
 
-const DESCRIPTOR: usize = 0;
-
-const LOST: usize = 1;
-
-const LOW: usize = 2;
-
-const HIGH: usize = 3;
-
-const FIRST: usize = 4;
+// A page for one of the streams, with what it holds up to its end.
+#[derive(Drop)]
+pub struct Page {
+    streams: Streams,
+    goes_to: u8,
+    // whether something was lost
+    lost: bool,
+    bytes: [u8; SIZE],
+    end: usize,
+    ghost within: { end ≤ 4096 },
+}
 
 // An empty page.
-pub fn open(descriptor: u8) -> Page {
-    let mut page = io::buffer();
-    page[DESCRIPTOR] = descriptor;
-    set_end(&mut page, FIRST);
-    page
-}
-
-fn set_end(page: &mut Page, end: usize) {
-    page[LOW] = (end % 256) as u8;
-    page[HIGH] = (end / 256 % 256) as u8;
-}
-
-fn wide(b: u8) -> usize {
-    b as usize
-}
-
-// The number of two bytes, or the page's size where it is more.
-fn joined(low: usize, high: usize) -> usize {
-    if high < 16 {
-        if low < 256 {
-            return low + 256 * high;
-        }
+pub fn open(streams: Streams, goes_to: u8) -> Page {
+    Page {
+        streams,
+        goes_to,
+        lost: false,
+        bytes: [0u8; SIZE],
+        end: 0,
     }
-    SIZE
 }
 
-// The place behind the last byte.
-fn end(page: &Page) -> usize {
-    joined(wide(page[LOW]), wide(page[HIGH]))
+// The streams of a page.
+pub fn streams_of(page: &Page) -> Streams {
+    page.streams
 }
 
-fn number(descriptor: u8) -> i32 {
-    descriptor as i32
-}
-
-// Whether the bytes up to a place went out.
-fn is_written(descriptor: i32, bytes: &[u8], end: usize) -> bool {
-    if bytes.len() < end {
-        return false;
+// Writes bytes to one of the streams.
+fn write(streams: Streams, goes_to: u8, bytes: &[u8]) -> Result<(), Error> {
+    if goes_to == OUTPUT {
+        streams.output.write_all(bytes)
+    } else {
+        streams.errors.write_all(bytes)
     }
-    if end < FIRST {
-        return false;
-    }
-    io::write_all(descriptor, &bytes[FIRST..end])
 }
 
 // Writes what the page holds; whether nothing of it was ever lost. The first loss of standard output is said, and after a
 // loss nothing is tried. (What standard error loses cannot be said anywhere.)
 pub fn sent(page: &mut Page) -> bool {
-    let at = end(page);
-    set_end(page, FIRST);
-    if page[LOST] != 0 {
+    let end = page.end;
+    page.end = 0;
+    if page.lost {
         return false;
     }
-    let descriptor = number(page[DESCRIPTOR]);
-    if is_written(descriptor, page, at) {
-        return true;
+    match write(page.streams, page.goes_to, &page.bytes[..end]) {
+        Ok(()) => true,
+        Err(e) => {
+            if page.goes_to == OUTPUT {
+                system::fail(page.streams.errors, b"standard output", e);
+            }
+            page.lost = true;
+            false
+        }
     }
-    if page[DESCRIPTOR] == OUTPUT {
-        os::fail(b"standard output");
-    }
-    page[LOST] = 1;
-    false
 }
 
 // One byte more.
 pub fn put(page: &mut Page, b: u8) {
-    if SIZE <= end(page) {
+    if SIZE <= page.end {
         sent(page);
     }
-    let at = end(page);
-    if at < SIZE {
-        page[at] = b;
-        set_end(page, at + 1);
+    let end = page.end;
+    if end < SIZE {
+        page.bytes[end] = b;
+        page.end = end + 1;
     }
 }

@@ -2,15 +2,15 @@
 ghost use Rattle.io.specs.Counts.{IsPrefixLen};
 ghost use Rattle.printing.specs.Visible.{Visible};
 
-use super::page;
 use super::page::Page;
+use super::{page, system};
+use std::io::Error;
+use std::rt::Stderr;
 
 // A text.
 pub fn text(page: &mut Page, s: &[u8]) {
-    let mut i = 0;
-    while i < s.len() {
-        page::put(page, s[i]);
-        i += 1;
+    for b in s {
+        page::put(page, *b);
     }
 }
 
@@ -59,17 +59,15 @@ fn piece(page: &mut Page, b: u8, numbers: &[u64], next: usize) -> usize {
 // Where a line of a text starts, counted from 0; the text's end where it has no such line.
 fn line_start(text: &[u8], line: usize) -> usize {
     let mut left = line;
-    let mut i = 0;
-    while i < text.len() {
+    for i in 0..text.len() {
         if left == 0 {
             return i;
         }
         if text[i] == b'\n' {
             left -= 1;
         }
-        i += 1;
     }
-    i
+    text.len()
 }
 
 // A form, which is a line of a text of forms: % stands for the next number, ~ for an s unless that number was 1, | for the
@@ -77,22 +75,18 @@ fn line_start(text: &[u8], line: usize) -> usize {
 pub fn form(page: &mut Page, forms: &[u8], line: usize, a: u64, b: u64, c: u64, d: u64) {
     let numbers = [a, b, c, d];
     let mut next = 0;
-    let mut i = line_start(forms, line);
-    while i < forms.len() {
+    for i in line_start(forms, line)..forms.len() {
         if forms[i] == b'\n' {
             return;
         }
         next = piece(page, forms[i], &numbers, next);
-        i += 1;
     }
 }
 
 // The blanks before a number of so many digits in a column.
 fn blanks(page: &mut Page, digits: usize, width: usize) {
-    let mut i = digits;
-    while i < width {
+    for _ in digits..width {
         page::put(page, b' ');
-        i += 1;
     }
 }
 
@@ -162,14 +156,12 @@ pub const NAME: usize = 4096;
 
 // The start of somebody's words, and dots where there is more.
 pub fn shown(page: &mut Page, word: &[u8], most: usize) {
-    let mut i = 0;
-    while i < word.len() {
+    for i in 0..word.len() {
         if i == most {
             text(page, b"...");
             return;
         }
         page::put(page, visible(word[i]));
-        i += 1;
     }
 }
 
@@ -189,8 +181,8 @@ fn made_visible(name: &[u8], out: &mut [u8]) -> usize
 }
 
 // What the system says of the file of a name, on standard error.
-pub fn fail(name: &[u8]) {
+pub fn fail(errors: Stderr, name: &[u8], error: Error) {
     let mut shown = io::buffer();
     let n = made_visible(name, &mut shown);
-    os::fail(&shown[..n]);
+    system::fail(errors, &shown[..n], error);
 }

@@ -11,6 +11,7 @@ use refusal::Refusal;
 use road::Road;
 
 // Internal: whether no two neighbouring faces have these letters: W followed by D, L followed by L.
+#[tactic(auto, unfolding(crate::specs::Words::illegal_pair))]
 fn is_illegal(s: u8, t: u8) -> bool
     ensures { result ≡ illegal_pair s t }
 {
@@ -18,6 +19,7 @@ fn is_illegal(s: u8, t: u8) -> bool
 }
 
 // Internal: whether a face offends, after the letter before it: by an unknown code, or as the second of an illegal pair.
+#[tactic(auto, unfolding(crate::specs::Words::offends))]
 fn offends(before: u8, s: u8) -> bool
     ensures { result ≡ offends before s }
 {

@@ -13,9 +13,14 @@ mod stillness;
 mod totals;
 
 use printing::page;
+use printing::page::Streams;
 
-fn main() {
-    let mut page = page::open(page::OUTPUT);
+fn main(rt: HostRuntime) {
+    let streams = Streams {
+        output: rt.stdout(),
+        errors: rt.stderr(),
+    };
+    let mut page = page::open(streams, page::OUTPUT);
     roads::cases(&mut page);
     faces::cases(&mut page);
     forecasts::cases(&mut page);

@@ -11,9 +11,14 @@ mod queues;
 mod readings;
 
 use printing::page;
+use printing::page::Streams;
 
-fn main() {
-    let mut page = page::open(page::OUTPUT);
+fn main(rt: HostRuntime) {
+    let streams = Streams {
+        output: rt.stdout(),
+        errors: rt.stderr(),
+    };
+    let mut page = page::open(streams, page::OUTPUT);
     readings::cases(&mut page);
     readings::long_cases(&mut page);
     queues::cases(&mut page);

@@ -6,9 +6,14 @@ mod rankings;
 mod stations;
 
 use printing::page;
+use printing::page::Streams;
 
-fn main() {
-    let mut page = page::open(page::OUTPUT);
+fn main(rt: HostRuntime) {
+    let streams = Streams {
+        output: rt.stdout(),
+        errors: rt.stderr(),
+    };
+    let mut page = page::open(streams, page::OUTPUT);
     stations::cases(&mut page);
     stations::bad_numbers(&mut page);
     stations::other_roads(&mut page);
