@@ -1,3 +1,4 @@
+-- A double that equals itself is no NaN, so its bits can be read.
 use Rattle.floats.proofs.Known.{equals_itself}
 use Rattle.printing.proofs.doubles.bits.Goals as goal
 
