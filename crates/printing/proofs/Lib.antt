@@ -1,3 +1,2 @@
--- Facts on doubles and on lists that the proofs of printing, and of what prints, cite.
+-- Facts on doubles that the proofs of printing cite.
 pub mod Nans
-pub mod Prefix

@@ -1,5 +1,5 @@
 // What the system says of a call that failed, on standard error.
-ghost use Rattle.std.specs.Prelude.{◌≤◌, length};
+ghost use Rattle.std.specs.Prelude.{◌≤◌};
 
 use std::fmt;
 use std::io::{Error, Print};
