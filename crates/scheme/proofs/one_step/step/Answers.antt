@@ -12,20 +12,13 @@ pub loop-i-preserved : goal.loop-i-preserved
 loop-i-preserved c =
     turns (lawful c.requires) c.loop-i.invariant (let n = c.loop-i.invariant.long in omega arith) c.flow-out.ensures
 
-pub returns-clause-stepped : goal.returns-clause-stepped
-returns-clause-stepped c =
+pub returns : goal.returns
+returns c =
     let now = c.loop-i.invariant in
     let last : length c.args.cells.now ≡ suc c.loop-i.i = let n = now.long in let h = now.inside in omega arith in
-    ends (lawful c.requires) now (let n = now.long in omega arith)
-    (c.flow-last.ensures ∙ ap (λ (k : ℕ). moved c.args.pace.road c.args.caps.now k (get_or c.loop-i.cells c.loop-i.i 0) c.args.down) last)
-
-pub returns-clause-stepped_by_faces : goal.returns-clause-stepped_by_faces
-returns-clause-stepped_by_faces c =
-    let now = c.loop-i.invariant in
-    let last : length c.args.cells.now ≡ suc c.loop-i.i = let n = now.long in let h = now.inside in omega arith in
-    step_faces c.args.pace.road c.args.caps.now c.requires.accepted
-    (ends (lawful c.requires) now (let n = now.long in omega arith)
-    (c.flow-last.ensures ∙ ap (λ (k : ℕ). moved c.args.pace.road c.args.caps.now k (get_or c.loop-i.cells c.loop-i.i 0) c.args.down) last))
+    let stepped = ends (lawful c.requires) now (let n = now.long in omega arith)
+    (c.flow-last.ensures ∙ ap (λ (k : ℕ). moved c.args.pace.road c.args.caps.now k (get_or c.loop-i.cells c.loop-i.i 0) c.args.down) last) in
+    record { stepped = stepped; stepped_by_faces = step_faces c.args.pace.road c.args.caps.now c.requires.accepted stepped }
 
 pub loop-i-init : goal.loop-i-init
 loop-i-init c =

@@ -3,14 +3,14 @@ use Rattle.std.proofs.Common.{arith}
 use Rattle.scheme.proofs.Stillness.{begins, ends_uneven, turns_uneven, turns, ends}
 use Rattle.scheme.proofs.settling.is_still.Goals as goal
 
--- the loop's turn and the end stand first: a wrong test fails there
+-- the loop's turn and the end stand first, and name no test: a wrong test fails there
 pub loop-i-preserved : goal.loop-i-preserved
 loop-i-preserved c =
-    turns c.requires.accepted c.loop-i.invariant (omega (arith, c.loop-i-test.true)) c.flow-inner.ensures c.if-inner-first.false
+    turns c.requires.accepted c.loop-i.invariant (omega (arith, c.loop-i-test.true)) c.flow-inner.ensures (omega arith)
 
 pub returns : goal.returns
 returns c =
-    ends c.requires.accepted c.loop-i.invariant (omega (arith, c.loop-i-test.false)) c.flow-last.ensures c.if-last-first.false
+    ends c.requires.accepted c.loop-i.invariant (omega (arith, c.loop-i-test.false)) c.flow-last.ensures (omega arith)
 
 pub returns-then-last-first : goal.returns-then-last-first
 returns-then-last-first c =
