@@ -8,33 +8,25 @@ loop-turn-init c = begins c.args.cells
 
 -- each sum of a turn is part of w + l + d, or that sum itself
 pub overflow_add-next_l : goal.overflow_add-next_l
-overflow_add-next_l c =
-    let t = c.loop-turn in let s = sum_small c.args.cells t.w t.l t.d t.turn t.invariant c.requires in omega arith
+overflow_add-next_l c = let l = c.loop-turn in let small = sum_small c.args.cells l.w l.l l.d l.turn l.invariant c.requires in omega arith
 
 pub overflow_add-next_d : goal.overflow_add-next_d
-overflow_add-next_d c =
-    let t = c.loop-turn in let s = sum_small c.args.cells t.w t.l t.d t.turn t.invariant c.requires in omega arith
+overflow_add-next_d c = let l = c.loop-turn in let small = sum_small c.args.cells l.w l.l l.d l.turn l.invariant c.requires in omega arith
 
 pub overflow_add-w : goal.overflow_add-w
-overflow_add-w c =
-    let t = c.loop-turn in let s = sum_small c.args.cells t.w t.l t.d t.turn t.invariant c.requires in omega arith
+overflow_add-w c = let l = c.loop-turn in let small = sum_small c.args.cells l.w l.l l.d l.turn l.invariant c.requires in omega arith
 
 pub overflow_add-w-in-loop-turn : goal.overflow_add-w-in-loop-turn
-overflow_add-w-in-loop-turn c =
-    let t = c.loop-turn in let s = sum_small c.args.cells t.w t.l t.d t.turn t.invariant c.requires in omega arith
-
-pub overflow_add-result : goal.overflow_add-result
-overflow_add-result c =
-    let t = c.loop-turn in let s = sum_small c.args.cells t.w t.l t.d t.turn t.invariant c.requires in omega arith
-
-pub overflow_add-result-2 : goal.overflow_add-result-2
-overflow_add-result-2 c =
-    let t = c.loop-turn in let s = sum_small c.args.cells t.w t.l t.d t.turn t.invariant c.requires in omega arith
+overflow_add-w-in-loop-turn c = let l = c.loop-turn in let small = sum_small c.args.cells l.w l.l l.d l.turn l.invariant c.requires in omega arith
 
 pub loop-turn-preserved : goal.loop-turn-preserved
-loop-turn-preserved c =
-    let t = c.loop-turn in turns c.args.cells t.w t.l t.d t.turn t.invariant c.loop-turn-test.true
+loop-turn-preserved c = let l = c.loop-turn in turns c.args.cells l.w l.l l.d l.turn l.invariant c.loop-turn-test.true
+
+pub overflow_add-result : goal.overflow_add-result
+overflow_add-result c = let l = c.loop-turn in let small = sum_small c.args.cells l.w l.l l.d l.turn l.invariant c.requires in omega arith
+
+pub overflow_add-result-2 : goal.overflow_add-result-2
+overflow_add-result-2 c = let l = c.loop-turn in let small = sum_small c.args.cells l.w l.l l.d l.turn l.invariant c.requires in omega arith
 
 pub returns : goal.returns
-returns c =
-    let t = c.loop-turn in ends c.args.cells t.w t.l t.d t.turn t.invariant c.loop-turn-test.false
+returns c = let l = c.loop-turn in ends c.args.cells l.w l.l l.d l.turn l.invariant c.loop-turn-test.false

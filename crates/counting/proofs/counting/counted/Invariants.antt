@@ -1,4 +1,4 @@
--- The loop of `counting::counted` keeps `Turning`, and comes nearer to the last cell.
+-- The loop of `counting::counted` keeps `Turning`.
 use Rattle.std.proofs.Common.{◌-◌}
 use Rattle.counting.proofs.Turning.{Turning}
 use Rattle.counting.proofs.counting.counted.Given as goal
