@@ -27,7 +27,7 @@ row_for r mode = record {
 -- "left × coefficient plus own × coefficient, then plus right × coefficient, then plus the constant, each operation rounded once"
 abbrev pub applied : CandidateRow → Float → Float → Float → Float
 applied row left own right =
-    add binary64 (add binary64 (add binary64 (mul binary64 left row.left) (mul binary64 own row.own_val)) (mul binary64 right row.right)) row.constant
+    add binary64 (add binary64 (add binary64 (mul binary64 left row.left) (mul binary64 own row.own)) (mul binary64 right row.right)) row.constant
 
 -- an estimate that is not a number, below 0 or above j. −0.0 is not below 0, and infinity is above j
 abbrev pub bad_estimate : ℕ → Float → Bool

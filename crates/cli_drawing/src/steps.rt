@@ -23,20 +23,16 @@ fn put(shades: &mut [u8], cell: usize, step: usize, shade: u8) {
 
 // The shades of all cells at one step.
 fn record(cells: &[u32], jam: u32, step: usize, shades: &mut [u8]) {
-    let mut i = 0;
-    while i < cells.len() {
+    for i in 0..cells.len() {
         put(shades, i, step, cli_picture::shade(cells[i], jam));
-        i += 1;
     }
 }
 
 // The cells become those of the list, as far as both go.
 fn copy(from: &[u32], to: &mut [u32]) {
     let n = numbers::within(from.len(), to);
-    let mut i = 0;
-    while i < n {
+    for i in 0..n {
         to[i] = from[i];
-        i += 1;
     }
 }
 
@@ -69,16 +65,14 @@ pub fn worked(
     shades: &mut [u8],
 ) -> bool {
     record(cells, road.jam, 0, shades);
-    let mut t = 0;
-    while t < ups.len() {
+    for t in 0..ups.len() {
         if downs.len() <= t {
             return false;
         }
         if !step(road, cells, ups[t], downs[t], caps, out) {
             return false;
         }
-        t += 1;
-        record(cells, road.jam, t, shades);
+        record(cells, road.jam, t + 1, shades);
     }
     true
 }

@@ -218,14 +218,12 @@ pub fn wrong_text(rt: &impl Env, streams: Streams, file: usize, text: &[u8], v: 
 
 // The keys that an action needs and the text lacks.
 fn lacking(page: &mut Page, text: &[u8], action: usize) {
-    let mut i = 0;
-    while i < MOST {
+    for i in 0..MOST {
         let key = needs::lacking(text, action, i);
         if key != keys::NONE {
             page::put(page, b' ');
             keys::name(page, key);
         }
-        i += 1;
     }
 }
 

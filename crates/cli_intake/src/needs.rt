@@ -97,12 +97,10 @@ pub fn lacking(text: &[u8], action: usize, i: usize) -> u8 {
 
 // Whether the text has every key that an action needs.
 fn has_keys(text: &[u8], action: usize) -> bool {
-    let mut i = 0;
-    while i < MOST {
+    for i in 0..MOST {
         if lacking(text, action, i) != NONE {
             return false;
         }
-        i += 1;
     }
     true
 }
@@ -181,12 +179,10 @@ fn has(rt: &impl Env, streams: Streams, file: usize, text: &[u8], action: usize)
 
 // Whether the text asks for something.
 fn asks(rt: &impl Env, streams: Streams, file: usize, text: &[u8]) -> bool {
-    let mut i = 0;
-    while i < ACTIONS {
+    for i in 0..ACTIONS {
         if is_given(text, keys::action(i)) {
             return true;
         }
-        i += 1;
     }
     errors::at(rt, streams, file, text, codes::END, errors::NO_ACTION);
     false
@@ -206,14 +202,12 @@ fn picture(rt: &impl Env, streams: Streams, o: Options, text: &[u8]) -> bool {
 
 // Whether every action that the text asks for has what it needs; the first one that has not gets a message.
 fn all_have(rt: &impl Env, streams: Streams, file: usize, text: &[u8]) -> bool {
-    let mut i = 0;
-    while i < ACTIONS {
+    for i in 0..ACTIONS {
         if is_given(text, keys::action(i)) {
             if !has(rt, streams, file, text, i) {
                 return false;
             }
         }
-        i += 1;
     }
     true
 }

@@ -36,15 +36,13 @@ fn passed(left: u64, b: u8) -> u64 {
 // Where the text goes on after so many newlines.
 fn after_newlines(text: &[u8], count: u64) -> usize {
     let mut left = count;
-    let mut i = 0;
-    while i < text.len() {
+    for i in 0..text.len() {
         if left == 0 {
             return i;
         }
         left = passed(left, text[i]);
-        i += 1;
     }
-    i
+    text.len()
 }
 
 // Where a line starts; lines count from 1.
@@ -57,14 +55,12 @@ fn line_start(text: &[u8], line: u64) -> usize {
 
 // The first place from another on where the bytes are no longer of a kind.
 fn passed_over(text: &[u8], from: usize, of: u8) -> usize {
-    let mut i = from;
-    while i < text.len() {
+    for i in from..text.len() {
         if kind(text[i]) != of {
             return i;
         }
-        i += 1;
     }
-    i
+    if text.len() < from { from } else { text.len() }
 }
 
 // The first word of a line from a place on; nothing at the end of the line.
@@ -95,13 +91,11 @@ const WORDS: u64 = 4096;
 // The first word from a place of a line on that is no value of a key.
 fn wrong_value(text: &[u8], from: usize, key: u8) -> Part {
     let mut p = word_from(text, from);
-    let mut i = 0;
-    while i < WORDS {
+    for _ in 0..WORDS {
         if cli_scenario::wrong_word(bytes(text, p), key) != 0 {
             return p;
         }
         p = word_from(text, p.end);
-        i += 1;
     }
     p
 }
@@ -126,15 +120,13 @@ pub fn word(text: &[u8], v: Verdict) -> &[u8] {
 // How many words stand in a line from a place on.
 fn words_from(text: &[u8], from: usize) -> u64 {
     let mut p = word_from(text, from);
-    let mut i = 0;
-    while i < WORDS {
+    for i in 0..WORDS {
         if p.end <= p.start {
             return i;
         }
         p = word_from(text, p.end);
-        i += 1;
     }
-    i
+    WORDS
 }
 
 // How many values stand in a line, after its keyword.

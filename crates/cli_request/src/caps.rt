@@ -20,10 +20,8 @@ fn open(n: usize, out: &mut [u32]) -> usize
     ensures { IsPrefixLen result out.new }
 {
     let m = faces(n, out);
-    let mut i = 0;
-    while i < m {
+    for i in 0..m {
         out[i] = OPEN;
-        i += 1;
     }
     m
 }
@@ -50,10 +48,8 @@ fn counted(cap: u32) -> usize
 // How many caps are not open.
 pub fn narrowed(caps: &[u32]) -> usize {
     let mut count = 0;
-    let mut i = 0;
-    while i < caps.len() {
-        count += counted(caps[i]);
-        i += 1;
+    for cap in caps {
+        count += counted(*cap);
     }
     count
 }

@@ -29,12 +29,10 @@ pub fn action(i: usize) -> u8 {
 
 // A keyword without the blanks that pad it.
 fn unpadded(page: &mut Page, name: &[u8]) {
-    let mut i = 0;
-    while i < name.len() {
-        if name[i] != b' ' {
-            page::put(page, name[i]);
+    for b in name {
+        if *b != b' ' {
+            page::put(page, *b);
         }
-        i += 1;
     }
 }
 

@@ -28,10 +28,8 @@ fn densities(values: &[u64], n: usize, out: &mut [u32]) -> usize
     ensures { IsPrefixLen result out.new }
 {
     let m = within(within_values(n, values), out);
-    let mut i = 0;
-    while i < m {
+    for i in 0..m {
         out[i] = narrow(values[i]);
-        i += 1;
     }
     m
 }
@@ -41,10 +39,8 @@ fn codes(values: &[u64], n: usize, out: &mut [u8]) -> usize
     ensures { IsPrefixLen result out.new }
 {
     let m = within_codes(within_values(n, values), out);
-    let mut i = 0;
-    while i < m {
+    for i in 0..m {
         out[i] = code(values[i]);
-        i += 1;
     }
     m
 }

@@ -48,12 +48,10 @@ fn row(page: &mut Page, number: u32, density: u32, change: i32) {
 
 fn table(page: &mut Page, cells: &[u32], numbers: &[u32], changes: &[i32]) {
     say(page, TABLE, numbers.len() as u64);
-    let mut i = 0;
-    while i < numbers.len() {
+    for i in 0..numbers.len() {
         if i < changes.len() {
             row(page, numbers[i], density(cells, numbers[i]), changes[i]);
         }
-        i += 1;
     }
 }
 

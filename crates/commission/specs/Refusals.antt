@@ -105,7 +105,7 @@ pub record Refusals : Type 0 where
   pub road_3_j : road_refusal (road 5 1 1 1 1) ≡ refused 3 0
   pub road_3_c_0 : road_refusal (road 5 4 1 1000 0) ≡ refused 3 0
   pub road_3_c_j : road_refusal (road 5 4 1 200 200) ≡ refused 3 0
-  -- 4 alone, p × C below q × (J − C) where road-4 has it above
+  -- 4 alone, p × C below q × (J − C) where road_4 has it above
   pub road_4_below : road_refusal (road 5 4 1 1000 199) ≡ refused 4 0
   -- the ceilings of D and J, by their numerals: each itself accepted, one beyond it refused, with nothing else that refuses
   pub road_4096 : road_refusal (road 4096 4096 4096 1000000 500000) ≡ passed

@@ -143,11 +143,16 @@ record Entry (k i : ℕ) (word : List ℕ) : Type 0 where
   known : Known word
   there : place word ≡ i
 
+-- a known letter before known letters
+known_cons : (s : ℕ) (word : List ℕ) → s ≤ letter_d → Known word → Known (s ∷ word)
+known_cons s word h known zero = h
+known_cons s word h known (suc i) = known i
+
 entry_cons : {k i : ℕ} {word : List ℕ} (s : ℕ) → s ≤ letter_d → Entry k i word → Entry (suc k) (s * length (all_words k) + i) (s ∷ word)
 unfolding place
 entry_cons s h e = record {
   size = ap suc e.size;
-  known = λ i. elim i [ zero ↦ h | suc j ↦ e.known j ];
+  known = known_cons s _ h e.known;
   there = rw (e.size, e.there);
 }
 

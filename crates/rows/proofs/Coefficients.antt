@@ -125,15 +125,15 @@ module _ {n : ℕ} (k : ℤ) {bound : ℕ} (h : n ≤ jam_ceiling) (g : nat_abs 
 
 -- a row applied: every product and every sum fits, and the last is read back
 module _ (row : WholeRow) (small : Sized row) (left own right : ℕ) (l : left ≤ jam_ceiling) (o : own ≤ jam_ceiling) (t : right ≤ jam_ceiling) where
-  parts : nat_abs (pos left *ℤ row.left) + nat_abs (pos own *ℤ row.own_val) + nat_abs (pos right *ℤ row.right) + nat_abs row.constant ≤ 8 * largest
+  parts : nat_abs (pos left *ℤ row.left) + nat_abs (pos own *ℤ row.own) + nat_abs (pos right *ℤ row.right) + nat_abs row.constant ≤ 8 * largest
   parts =
       let a : nat_abs (pos left *ℤ row.left) ≤ largest = le_trans (times_small row.left l small.left_small (lit≤ tt)) (lit≤ tt) in
-      let b : nat_abs (pos own *ℤ row.own_val) ≤ 3 * largest = le_trans (times_small row.own_val o small.own_small (lit≤ tt)) (lit≤ tt) in
+      let b : nat_abs (pos own *ℤ row.own) ≤ 3 * largest = le_trans (times_small row.own o small.own_small (lit≤ tt)) (lit≤ tt) in
       let c : nat_abs (pos right *ℤ row.right) ≤ largest = le_trans (times_small row.right t small.right_small (lit≤ tt)) (lit≤ tt) in
       let d = small.constant_small in
       omega arith
 
-  first_three : nat_abs (pos left *ℤ row.left) + nat_abs (pos own *ℤ row.own_val) + nat_abs (pos right *ℤ row.right) ≤ 8 * largest
+  first_three : nat_abs (pos left *ℤ row.left) + nat_abs (pos own *ℤ row.own) + nat_abs (pos right *ℤ row.right) ≤ 8 * largest
   first_three = omega (arith, parts)
 
   pub applied_small : nat_abs (applied_to row left own right) ≤ 8 * largest
@@ -142,11 +142,11 @@ module _ (row : WholeRow) (small : Sized row) (left own right : ℕ) (l : left �
       omega (
         arith,
         parts,
-        three_small (pos left *ℤ row.left) (pos own *ℤ row.own_val) (pos right *ℤ row.right),
-        nat_abs_add (pos left *ℤ row.left +ℤ pos own *ℤ row.own_val +ℤ pos right *ℤ row.right) row.constant,
+        three_small (pos left *ℤ row.left) (pos own *ℤ row.own) (pos right *ℤ row.right),
+        nat_abs_add (pos left *ℤ row.left +ℤ pos own *ℤ row.own +ℤ pos right *ℤ row.right) row.constant,
       )
 
-  module _ {x y z w : ℤ} (e : x ≡ pos left *ℤ row.left) (q : y ≡ pos own *ℤ row.own_val) (s : z ≡ pos right *ℤ row.right) (u : w ≡ row.constant) where
+  module _ {x y z w : ℤ} (e : x ≡ pos left *ℤ row.left) (q : y ≡ pos own *ℤ row.own) (s : z ≡ pos right *ℤ row.right) (u : w ≡ row.constant) where
     all_four : to_z w64 (of_z w64 (to_z w64 (of_z w64 (x +ℤ y)) +ℤ z)) +ℤ w ≡ applied_to row left own right
     unfolding applied_to
     all_four = ap₂ ◌+ℤ◌ (three_exact e q s first_three) u

@@ -1,6 +1,6 @@
 -- Laws of the integers beside the library's: a sum regrouped, and a sum times a number.
 use mathlib.Core.Path.{◌≡◌, ap, sym, ◌∙◌}
-use Prim.Native.Nat.{zero, suc, ◌+◌, ◌-◌, ◌*◌}
+use Prim.Native.Nat.{zero, suc}
 use lib.IntN.{ℤ, pos, negsuc, suc_ℤ, pred_ℤ, ◌+ℤ◌, ◌*ℤ◌, neg_ℤ, suc_ℤ-+ℤ, pred_ℤ-+ℤ, suc_ℤ-*ℤ, pred_ℤ-*ℤ, zero-*ℤ}
 use lib.IntN.{+ℤ_idl, +ℤ_assoc, +ℤ_comm}
 

@@ -38,11 +38,11 @@ whole_rows r =
 
 -- a row applied to a cell's density and its neighbours'
 unfoldable pub applied_to : WholeRow → ℕ → ℕ → ℕ → ℤ
-applied_to row left own right = pos left *ℤ row.left +ℤ pos own *ℤ row.own_val +ℤ pos right *ℤ row.right +ℤ row.constant
+applied_to row left own right = pos left *ℤ row.left +ℤ pos own *ℤ row.own +ℤ pos right *ℤ row.right +ℤ row.constant
 
 -- how large a row's numbers are on an accepted road
 pub record Sized (row : WholeRow) : Type 0 where
   pub left_small : nat_abs row.left ≤ divisor_ceiling
-  pub own_small : nat_abs row.own_val ≤ 3 * divisor_ceiling
+  pub own_small : nat_abs row.own ≤ 3 * divisor_ceiling
   pub right_small : nat_abs row.right ≤ divisor_ceiling
   pub constant_small : nat_abs row.constant ≤ 3 * (divisor_ceiling * jam_ceiling)

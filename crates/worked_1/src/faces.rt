@@ -64,10 +64,8 @@ fn show(page: &mut Page, road: u8, line: usize, a: u32, b: u32) {
 
 // The faces, one by one.
 pub fn cases(page: &mut Page) {
-    let mut i = 0;
-    while i < COUNT {
+    for i in 0..COUNT {
         let face = CASES[i];
         show(page, face.0, face.1, face.2, face.3);
-        i += 1;
     }
 }

@@ -107,10 +107,8 @@ fn short(page: &mut Page, line: usize, case: Case) {
 
 // The worked cases, and a refusal for each number of a forecast.
 pub fn cases(page: &mut Page) {
-    let mut i = 0;
-    while i < COUNT {
+    for i in 0..COUNT {
         short(page, forms::FORECASTS + i, CASES[i]);
-        i += 1;
     }
 }
 
@@ -173,8 +171,7 @@ fn long(
 
 // The accepted edges, and one beyond each.
 pub fn edges(page: &mut Page) {
-    let mut i = 0;
-    while i < EDGE_COUNT {
+    for i in 0..EDGE_COUNT {
         let edge = EDGES[i];
         long(
             page,
@@ -187,6 +184,5 @@ pub fn edges(page: &mut Page) {
             edge.5,
             edge.6,
         );
-        i += 1;
     }
 }

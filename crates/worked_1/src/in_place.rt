@@ -19,10 +19,8 @@ const FACES: usize = MOST + 1;
 fn in_turn() -> [u32; MOST] {
     let few = [7u32, 2, 9];
     let mut cells = [0u32; MOST];
-    let mut i = 0;
-    while i < MOST {
+    for i in 0..MOST {
         cells[i] = few[i % 3];
-        i += 1;
     }
     cells
 }
@@ -32,12 +30,10 @@ fn same(xs: &[u32], ys: &[u32]) -> bool {
     if xs.len() != ys.len() {
         return false;
     }
-    let mut i = 0;
-    while i < xs.len() {
+    for i in 0..xs.len() {
         if xs[i] != ys[i] {
             return false;
         }
-        i += 1;
     }
     true
 }

@@ -26,11 +26,9 @@ const CASES: [u8; COUNT] = [
 
 // Roads that are accepted and roads that are refused.
 pub fn cases(page: &mut Page) {
-    let mut i = 0;
-    while i < COUNT {
+    for i in 0..COUNT {
         forms::say(page, forms::ROADS + i, 0, 0);
         print::refusal(page, road::judged(roads::road(CASES[i])));
         page::put(page, b'\n');
-        i += 1;
     }
 }

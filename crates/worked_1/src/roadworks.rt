@@ -118,12 +118,10 @@ fn short(page: &mut Page, case: Case, caps: [u32; MOST]) {
 
 // All cases, two lines each.
 pub fn cases(page: &mut Page) {
-    let mut i = 0;
-    while i < COUNT {
+    for i in 0..COUNT {
         let case = CASES[i];
         let caps = CAPS[i];
         short(page, case, caps);
-        i += 1;
     }
 }
 

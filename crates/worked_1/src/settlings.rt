@@ -104,10 +104,8 @@ fn short(page: &mut Page, line: usize, case: Case) {
 
 // The worked cases, and the refusals.
 pub fn cases(page: &mut Page) {
-    let mut i = 0;
-    while i < COUNT {
+    for i in 0..COUNT {
         short(page, forms::SETTLINGS + i, CASES[i]);
-        i += 1;
     }
 }
 

@@ -79,10 +79,8 @@ fn listed(page: &mut Page, case: Case) {
 
 // All cases.
 pub fn cases(page: &mut Page) {
-    let mut i = 0;
-    while i < COUNT {
+    for i in 0..COUNT {
         let case = CASES[i];
         listed(page, case);
-        i += 1;
     }
 }

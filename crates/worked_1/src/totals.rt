@@ -74,10 +74,8 @@ fn of_101(page: &mut Page, line: usize, case: Case) {
 
 // The increase, the largest total, and one unit past it.
 pub fn cases(page: &mut Page) {
-    let mut i = 0;
-    while i < COUNT {
+    for i in 0..COUNT {
         of_101(page, forms::FULL + i, CASES[i]);
-        i += 1;
     }
 }
 
@@ -141,10 +139,8 @@ pub fn chain(page: &mut Page) {
         entered: 0,
         left: 0,
     };
-    let mut i = 0;
-    while i < CALLS {
+    for i in 0..CALLS {
         let ends = CHAIN[i];
         totals = fed(page, &mut cells, totals, ends.0, ends.1);
-        i += 1;
     }
 }

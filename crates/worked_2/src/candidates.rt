@@ -61,8 +61,7 @@ fn show(
 
 // Numerators, and the refusals of modes and of estimates, on road A.
 pub fn cases(page: &mut Page) {
-    let mut i = 0;
-    while i < COUNT {
+    for i in 0..COUNT {
         let case = CASES[i];
         show(
             page,
@@ -74,7 +73,6 @@ pub fn cases(page: &mut Page) {
             case.3,
             case.4,
         );
-        i += 1;
     }
 }
 

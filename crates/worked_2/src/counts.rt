@@ -25,9 +25,7 @@ fn show(page: &mut Page, cells: u32) {
 
 // How many words there are for so many cells.
 pub fn cases(page: &mut Page) {
-    let mut i = 0;
-    while i < COUNT {
+    for i in 0..COUNT {
         show(page, CELLS[i]);
-        i += 1;
     }
 }

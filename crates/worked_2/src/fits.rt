@@ -56,10 +56,8 @@ fn show(page: &mut Page, line: usize, road: u8, cells: u8, up: u32, word: u8) {
 
 // The own word, foreign words, refusals.
 pub fn cases(page: &mut Page) {
-    let mut i = 0;
-    while i < COUNT {
+    for i in 0..COUNT {
         let case = CASES[i];
         show(page, forms::FITS + i, case.0, case.1, case.2, case.3);
-        i += 1;
     }
 }

@@ -54,10 +54,8 @@ fn short(page: &mut Page, line: usize, cells: u8, up: u32, word: u8, places: usi
 
 // The worked case, numerators of a single cell, refusals.
 pub fn cases(page: &mut Page) {
-    let mut i = 0;
-    while i < COUNT {
+    for i in 0..COUNT {
         let case = CASES[i];
         short(page, forms::ROWS + i, case.0, case.1, case.2, case.3);
-        i += 1;
     }
 }

@@ -109,11 +109,9 @@ fn short(page: &mut Page, line: usize, case: Case, xs: [u32; MOST]) {
 
 // All cases, one line each.
 pub fn cases(page: &mut Page) {
-    let mut i = 0;
-    while i < COUNT {
+    for i in 0..COUNT {
         let case = CASES[i];
         let xs = CELLS[i];
         short(page, forms::RANKINGS + i, case, xs);
-        i += 1;
     }
 }

@@ -65,11 +65,9 @@ const CASES: [Case; COUNT] = [
 
 // Readings on road A.
 pub fn cases(page: &mut Page) {
-    let mut i = 0;
-    while i < COUNT {
+    for i in 0..COUNT {
         let case = CASES[i];
         show(page, case.0, forms::READINGS + i, A, case.1, case.2);
-        i += 1;
     }
 }
 
