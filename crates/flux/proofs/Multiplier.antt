@@ -3,12 +3,14 @@ use mathlib.Core.Path.{◌≡◌, ◌∙◌, sym, ap}
 use mathlib.Core.Bool.{Bool}
 use mathlib.Core.Logic.{◌⊎◌, inl, inr}
 use Prim.Native.Nat.{ℕ, ◌+◌, ◌-◌, ◌*◌, ◌/◌, ◌^◌, ◌≤◌, ◌<◌, min, max}
-use native.Mathlib.Nat.{mul_comm, le_trans, mul-le-mul, mul-le-mul_left, mul-le-mul_right, le_of_mul-le-mul_right, lt_of_mul-lt-mul_right, div-eq_of_lt-le, le_of_eq, eq-or-lt_of_le}
+use native.Mathlib.Nat.{mul_comm, le_trans, mul-le-mul, mul-le-mul_left, mul-le-mul_right, le_of_mul-le-mul_right, lt_of_mul-lt-mul_right, div-eq_of_lt-le, div-lt_iff_lt-mul, le_of_lt, le_of_eq, eq-or-lt_of_le}
 use native.Mathlib.Omega.{arith}
-use lib.Dec.{lit≤}
+use lib.Dec.{lit<, lit≤}
 use borrow.Author.Tests.{lt-ltb, le-ltb}
+use mir.Syntax.{w32}
+use mir.Val.{Fits}
 use Rattle.choice.specs.Choice.{pick}
-use Rattle.road.specs.Ceilings.{jam_ceiling}
+use Rattle.road.specs.Ceilings.{divisor_ceiling, jam_ceiling}
 use Rattle.road.specs.Judgement.{Accepted}
 use Rattle.road.specs.declared.Road.{Road}
 use Rattle.flux.specs.Face.{sending, receiving, numerator, units}
@@ -55,6 +57,10 @@ unfolding multiplier
 rounded_up x d pos =
     let whole : Quotient _ _ (multiplier x d) = quotient pos in
     record { enough = omega arith; least = omega arith }
+
+-- the multiplier of a fraction below one fits 32 bits
+pub multiplier_fits : (x d : ℕ) → d ≤ divisor_ceiling → x < d → Fits w32 ((x * 2 ^ 32 + (d - 1)) / d)
+multiplier_fits x d high h = let pos : 0 < d = omega arith in record { fits = (div-lt_iff_lt-mul pos).1 (omega arith) }
 
 -- the two cases of a factor
 pub factor_slow : (speed d : ℕ) → speed < d → factor_of speed d ≡ slow_factor speed d
@@ -117,6 +123,16 @@ module _ (r : Road) (ok : Accepted r) where
       ap (units r) (numerator_least a b)
       ∙ units_min r pos (min (r.free * a) (r.wave * (r.jam - b))) (r.free * r.critical)
       ∙ ap (λ (x : ℕ). min x (units r (r.free * r.critical))) (units_min r pos (r.free * a) (r.wave * (r.jam - b)))
+
+-- a product by a 32-bit multiplier with a 32-bit offset
+pub product_small : (a m e : ℕ) → a ≤ jam_ceiling → m < 2 ^ 32 → e < 2 ^ 32 → a * m + e < (jam_ceiling + 1) * 2 ^ 32
+product_small a m e h k l = let product = mul-le-mul h (le_of_lt k) in omega arith
+
+-- its upper half fits 32 bits
+pub upper_half_fits : (a m e : ℕ) → a ≤ jam_ceiling → m < 2 ^ 32 → e < 2 ^ 32 → Fits w32 ((a * m + e) / 2 ^ 32)
+upper_half_fits a m e h k l =
+    let small = product_small a m e h k l in
+    record { fits = (div-lt_iff_lt-mul (lit< tt)).1 (omega arith) }
 
 -- what the fields of a road's pace give
 module _ (p : Pace) (ok : Accepted p.road) (is : p ≡ pace_of p.road) where

@@ -1,5 +1,5 @@
 -- Which inputs the two tables refuse nothing of, and what a table's first part leaves to know.
-use mathlib.Core.Path.{◌≡◌, ◌∙◌, refl, sym}
+use mathlib.Core.Path.{◌≡◌, ◌∙◌, refl, sym, subst}
 use mathlib.Core.Bool.{Bool, false}
 use mathlib.Core.List.{List, [], ◌∷◌}
 use Prim.Native.Nat.{ℕ, zero, suc, ◌≤◌, zero-le}
@@ -87,6 +87,10 @@ module _ (r : Road) (caps cells ups downs : List ℕ) (t out : ℕ) where
   pub input_checked : (input_refusal r caps cells ups downs t out).number ≡ 0 → InputChecked r caps cells ups downs t out
   unfolding input_refusal
   input_checked e = input_of (none_holds (input_checks r caps cells ups downs t out) tt e)
+
+  -- checked with one output is checked with another that is as long
+  pub with_output : InputChecked r caps cells ups downs t out → (other : ℕ) → other ≡ length cells → InputChecked r caps cells ups downs t other
+  with_output c other e = subst (InputChecked r caps cells ups downs t) (c.output_long ∙ sym e) c
 
   module _ (totals : Totals) where
     -- a refusal by the checks before 19 stands

@@ -3,7 +3,7 @@ use mathlib.Core.Path.{◌≡◌, ◌∙◌, sym, ap, ap₂}
 use mathlib.Core.List.{List}
 use Prim.Native.Nat.{ℕ, ◌*◌, min}
 use native.Mathlib.Nat.{one-mul, mul-one, mul_left_comm}
-use lib.ListN.{get_or}
+use lib.ListN.{length, get_or}
 use Rattle.road.specs.Judgement.{Accepted}
 use Rattle.road.specs.declared.Road.{Road}
 use Rattle.flux.specs.Face.{numerator, units, scaled}
@@ -12,6 +12,7 @@ use Rattle.flux.proofs.Laws.{capped_law, moved_law, scaled_law, accepted_sound}
 use Rattle.flux.proofs.Rounding.{units_spread, units_cap}
 use Rattle.flux.proofs.Scaling.{min_times, homogeneous, scaled_one}
 use Rattle.scheme.specs.Advance.{stepped}
+use Rattle.scheme.specs.Sums.{Below}
 use Rattle.scheme.specs.Partners.{Lawful, Partners}
 use Rattle.scheme.specs.Rounded.{moved}
 use Rattle.scheme.specs.Exact.{exact_flow, exact_step}
@@ -50,3 +51,8 @@ partners r caps ok = record {
 -- where a call is ready, its rounded flow is lawful
 pub lawful : {p : Pace} {caps xs : List ℕ} {up down : ℕ} → Ready p caps xs up down → Lawful 1 p.road.jam p.road.critical (moved p.road caps)
 lawful {p} {caps} h = (partners p.road caps h.accepted).rounded
+
+-- and the next call is ready, with as many cells in range
+pub ready_again : {p : Pace} {caps xs ys : List ℕ} {up down : ℕ} → Ready p caps xs up down → length ys ≡ length xs → Below p.road.jam ys → Ready p caps ys up down
+ready_again h e below =
+    record { accepted = h.accepted; pace_of_road = h.pace_of_road; caps_long = rw e h.caps_long; some = rw e h.some; below = below; up_high = h.up_high; down_high = h.down_high }

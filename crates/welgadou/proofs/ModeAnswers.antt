@@ -18,7 +18,6 @@ use Rattle.modes.specs.declared.fitting.FitResult.{FitResult}
 use Rattle.modes.specs.declared.fitting.FitAnswer.{FitAnswer}
 use Rattle.modes.specs.declared.fitting.FitAnswer.TheVariants as F
 use Rattle.rows.specs.declared.prediction.PredictAnswer.{PredictAnswer}
-use Rattle.rows.specs.declared.prediction.PredictAnswer.TheVariants as P
 use Rattle.candidate.specs.declared.candidates.CandidateResult.{CandidateResult}
 use Rattle.candidate.specs.declared.candidates.CandidateAnswer.{CandidateAnswer}
 use Rattle.candidate.specs.declared.candidates.CandidateAnswer.TheVariants as C

@@ -1,5 +1,5 @@
 -- `forecast::settle` meets its contract: refused, nothing is written; otherwise the copy is settled.
-use Rattle.std.proofs.Common.{◌≡◌, ℕ, List, length}
+use Rattle.std.proofs.Common.{◌≡◌, ℕ, List, length, arith}
 use Rattle.refusal.proofs.Parts.{same_number}
 use Rattle.refusal.proofs.Calls as Calls
 use Rattle.refusal.specs.declared.Refusal.{Refusal}
@@ -10,7 +10,7 @@ use Rattle.forecast.proofs.Answers.{settle_refused}
 use Rattle.forecast.proofs.Calling.{in_range, settle_asks, settle_gives}
 use Rattle.forecast.proofs.settling.settle.Goals as goal
 
--- past the branch nothing is refused
+-- past the branch nothing is refused; the answers below name no test, so that a wrong one fails there
 checked : {r : Road} {caps cells : List ℕ} {up down t out : ℕ} {f : Refusal} → f ≡ settle_refusal r caps cells up down t out → f.number ≡ 0
     → SettleChecked r caps cells up down t out
 checked {r} {caps} {cells} {up} {down} {t} {out} e z = Calls.checked (settle_call r caps cells up down t out) (same_number e z)
@@ -22,19 +22,19 @@ returns-then-refusal-ne0 c =
 
 pub copy-requires : goal.copy-requires
 copy-requires c =
-    let ok = checked c.judged-refusal.ensures c.if-refusal-ne0.false in
+    let ok = checked c.judged-refusal.ensures (omega arith) in
     (in_range c.args.cells.now ok.accepted ok.cells_below, ok.output_long)
 
 pub of-requires : goal.of-requires
-of-requires c = (checked c.judged-refusal.ensures c.if-refusal-ne0.false).accepted
+of-requires c = (checked c.judged-refusal.ensures (omega arith)).accepted
 
 pub settle-requires : goal.settle-requires
 settle-requires c =
     settle_asks c.args.road c.of.result c.of.ensures c.args.caps.now c.args.cells.now c.copy.new.out c.copy.ensures
-    c.args.up c.args.down c.args.horizon (length c.args.out.now) (checked c.judged-refusal.ensures c.if-refusal-ne0.false)
+    c.args.up c.args.down c.args.horizon (length c.args.out.now) (checked c.judged-refusal.ensures (omega arith))
 
 pub returns : goal.returns
 returns c =
     settle_gives c.args.road c.of.result c.of.ensures c.args.caps.now c.args.cells.now c.copy.new.out c.copy.ensures
-    c.args.up c.args.down c.args.horizon c.args.out.now (same_number c.judged-refusal.ensures c.if-refusal-ne0.false)
+    c.args.up c.args.down c.args.horizon c.args.out.now (same_number c.judged-refusal.ensures (omega arith))
     c.settle.new.cells c.settle.result c.settle.ensures
