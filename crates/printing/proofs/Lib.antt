@@ -1,2 +1,3 @@
--- Facts on doubles that the proofs of printing cite.
+-- Facts on doubles and on lists that proofs cite.
 pub mod Nans
+pub mod Prefix

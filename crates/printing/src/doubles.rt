@@ -11,6 +11,7 @@ fn bits(x: f64) -> u64 {
 }
 
 // The double of 64 bits. The bits of a NaN, of whatever kind, give a NaN: all exponent bits set, and not all others 0.
+#[tactic(auto, using(crate::proofs::Nans::digits_none, crate::proofs::Nans::exponent_other))]
 pub fn of_bits(n: u64) -> f64 {
     if n % 4503599627370496 == 0 {
         return f64::from_bits(n);

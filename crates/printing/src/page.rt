@@ -12,7 +12,7 @@ pub struct Streams {
     pub errors: Stderr,
 }
 
-// The streams that a program's results go to.
+// Which of the streams a page goes to: standard output or standard error.
 pub const OUTPUT: u8 = 1;
 
 pub const ERRORS: u8 = 2;
