@@ -37,8 +37,9 @@
  *     (welgadou_station_speed), without rounding; that any number of further steps keeps a settled state; that a foreign
  *     word's number may be negative (a case).
  *   - Not proved, but read off the code and the build: which calls use floating point; what is said of null pointers,
- *     memory, other libraries, threads and unwinding; that a refused call stores nothing (the contract says that the
- *     contents are the same, and of a NaN that it is still one); and where it stands in brackets.
+ *     memory, other libraries, threads and unwinding; that the seven instructions (a memset) by which the compiled code
+ *     clears the forecast's working list do so; that a refused call stores nothing (the contract says that the contents
+ *     are the same, and of a NaN that it is still one); and where it stands in brackets.
  *   - Measured, and held to its figure by a test: the stack.
  *
  * docs/CERTIFICATE.md names the clause or theorem behind each sentence, and what the proofs rest on.
