@@ -6,16 +6,30 @@ use printing::page::Streams;
 use printing::say;
 use std::fs;
 use std::fs::{File, OpenFile, OpenOptions};
-use std::io::{Error, Write};
+use std::io::{Error, ErrorKind, Write};
 use std::rt::{Env, Files};
 
 // Whether the system keeps what was written to a file. It may still have to refuse a plain file's bytes: those that are on
-// their way are waited for. (A pipe or a device has none.)
+// their way are waited for, where the file's system can. (A pipe or a device has none.)
 fn kept<F: OpenFile>(file: &F) -> Result<(), Error> {
     if file.metadata()?.is_file() {
-        file.sync_all()
+        waited_for(file.sync_all())
     } else {
         Ok(())
+    }
+}
+
+// A file system that cannot wait for bytes says that the call is invalid, which is nothing against them.
+fn waited_for(synced: Result<(), Error>) -> Result<(), Error> {
+    match synced {
+        Ok(()) => Ok(()),
+        Err(e) => {
+            if e.kind() == ErrorKind::InvalidInput {
+                Ok(())
+            } else {
+                Err(e)
+            }
+        }
     }
 }
 

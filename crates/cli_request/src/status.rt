@@ -28,9 +28,9 @@ pub fn worst(a: u8, b: u8) -> u8
 // Where the script reads a status: what the program was given as its descriptor 3, by the name that the system has for it.
 const DESCRIPTOR: &str = "/dev/fd/3";
 
-// The status as one digit, for the script.
+// The status as one digit, for the script: behind what stands there, should it be a file.
 pub fn report(rt: &impl Files, status: u8) {
-    if let Ok(mut file) = OpenOptions::new().write(true).open(rt, DESCRIPTOR) {
+    if let Ok(mut file) = OpenOptions::new().append(true).open(rt, DESCRIPTOR) {
         let _ = file.write_all(&[b'0' + status % 10]);
     }
 }

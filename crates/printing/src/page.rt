@@ -17,7 +17,7 @@ pub const OUTPUT: u8 = 1;
 
 pub const ERRORS: u8 = 2;
 
-const SIZE: usize = 4096;
+const SIZE: usize = 4092;
 
 // A page for one of the streams, with what it holds up to its end.
 #[derive(Drop)]
@@ -28,7 +28,7 @@ pub struct Page {
     lost: bool,
     bytes: [u8; SIZE],
     end: usize,
-    ghost within: { end ≤ 4096 },
+    ghost within: { end ≤ 4092 },
 }
 
 // An empty page.
