@@ -1,3 +1,4 @@
+-- The loop of `cli_intake::input::filled`: the buffer keeps its length, what was read lies within it, and each turn leaves less room.
 use Rattle.std.proofs.Common.{length, ◌-◌, ◌≡◌, ◌≤◌}
 use Rattle.cli_intake.proofs.input.filled.Given as goal
 

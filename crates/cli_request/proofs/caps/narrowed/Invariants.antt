@@ -1,3 +1,4 @@
+-- The loop of `cli_request::caps::narrowed`.
 use Rattle.std.proofs.Common.{◌≤◌}
 use Rattle.cli_request.proofs.caps.narrowed.Given as goal
 

@@ -1,3 +1,4 @@
+-- `printing::doubles::truncated`: between the two bounds that it tests, a double's whole part fits 64 bits with a sign.
 use Rattle.std.proofs.Common.{T, sym, subst}
 use Rattle.printing.proofs.doubles.truncated.Goals as goal
 

@@ -1,3 +1,4 @@
+-- The loop of `printing::say::made_visible`: the buffer keeps its length, and what was written lies within it.
 use Rattle.std.proofs.Common.{length, ◌-◌, ◌≡◌, ◌≤◌}
 use Rattle.printing.proofs.say.made_visible.Given as goal
 

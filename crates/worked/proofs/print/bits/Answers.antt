@@ -1,3 +1,4 @@
+-- `worked::print::bits` takes the bits of a number alone.
 use Rattle.floats.proofs.Known.{equals_itself}
 use Rattle.worked.proofs.print.bits.Goals as goal
 
