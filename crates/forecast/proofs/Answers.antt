@@ -9,7 +9,7 @@ use Rattle.choice.specs.Choice.{pick}
 use Rattle.refusal.specs.Table.{refused, passed}
 use Rattle.road.specs.Ceilings.{jam_ceiling}
 use Rattle.road.specs.declared.Road.{Road}
-use Rattle.refusal.specs.declared.Refusal.{Refusal}
+use Rattle.refusal.specs.Outcome.{Outcome}
 use Rattle.refusal.proofs.Calls.{refuses, accepts}
 use Rattle.scheme.specs.Settling.{after, settles, settle_steps, settle_cells}
 use Rattle.scheme.specs.ByFaces.{RunByFaces}
@@ -20,10 +20,10 @@ use Rattle.scheme.proofs.Promises.{round_run_length, exact_run_length, round_ran
 use Rattle.scheme.proofs.Settlement.{least_still, full_run}
 use Rattle.scheme.proofs.ByFaces.{run_by_faces, after_by_faces, exact_run_by_faces}
 use Rattle.forecast.specs.declared.forecasting.Record.{Record}
-use Rattle.forecast.specs.declared.forecasting.ForecastAnswer.{ForecastAnswer}
-use Rattle.forecast.specs.declared.forecasting.ForecastAnswer.TheVariants as F
-use Rattle.forecast.specs.declared.settling.SettleAnswer.{SettleAnswer}
-use Rattle.forecast.specs.declared.settling.SettleAnswer.TheVariants as S
+use Rattle.forecast.specs.Answers.{ForecastAnswer}
+use Rattle.refusal.specs.Answer as F
+use Rattle.forecast.specs.Answers.{SettleAnswer}
+use Rattle.refusal.specs.Answer as S
 use Rattle.forecast.specs.Forecast.{InputChecked, own_of, increased, carried_on, total_check, Fits, forecast_refusal, forecast_answer, forecast_cells, forecast_meaning, meaning, Demand3, Forecasts}
 use Rattle.forecast.specs.Settle.{settle_refusal, SettleChecked, settle_answer, settle_output, settle_meaning, meaning as settled_meaning, from_zero, Settlement, Settles}
 use Rattle.forecast.proofs.Checked.{fits_pass, forecast_call, total_decides, settle_call, full_checked}
@@ -56,13 +56,13 @@ module _ (r : Road) (caps cells ups downs : List ℕ) (t : ℕ) (out : List ℕ)
 
   module _ (totals : Totals) where
     -- refused: the number and place of the table, and the former contents
-    pub forecast_refused : (f : Refusal) → f ≡ forecast_refusal r caps cells ups downs t totals (length out) → (f.number ≡ 0 → ⊥) → Forecasts r caps cells ups downs t totals out out (F.Refused f)
+    pub forecast_refused : (f : Outcome) → f ≡ forecast_refusal r caps cells ups downs t totals (length out) → (f.number ≡ 0 → ⊥) → Forecasts r caps cells ups downs t totals out out (F.Refused f)
     unfolding forecast_answer forecast_cells forecast_meaning
     forecast_refused f e n =
         let k = refuses (forecast_call r caps cells ups downs t (length out) totals) e n in
         record {
           answer = rw k.no (ap F.Refused e);
-          means = rw k.no (ap (λ (g : Refusal). meaning (F.Refused g)) e);
+          means = rw k.no (ap (λ (g : Outcome). meaning (F.Refused g)) e);
           output = rw k.no refl;
           judged = k.judged;
           demand3 = λ d q. absurd (true≢false (cc q));
@@ -85,7 +85,7 @@ module _ (r : Road) (caps cells ups downs : List ℕ) (t : ℕ) (out : List ℕ)
       pub forecast_done : Fits totals own → Forecasts r caps cells ups downs t totals out next (F.Done (carried_on totals own))
       unfolding forecast_answer forecast_cells forecast_meaning
       forecast_done f =
-          let k = accepts (forecast_call r caps cells ups downs t (length out) totals) (ap (λ (f : Refusal). f.number) (decided (sym (fits_pass totals own f)))) in
+          let k = accepts (forecast_call r caps cells ups downs t (length out) totals) (ap (λ (f : Outcome). f.number) (decided (sym (fits_pass totals own f)))) in
           record {
             answer = rw k.yes (ap (λ (o : Totals). F.Done (carried_on totals o)) sums);
             means = rw k.yes (λ i. record {
@@ -143,13 +143,13 @@ module _ (r : Road) (caps cells : List ℕ) (up down t : ℕ) (out : List ℕ) w
         full_done = (_, sym forecast.answer);
       }
 
-  pub settle_refused : (f : Refusal) → f ≡ settle_refusal r caps cells up down t (length out) → (f.number ≡ 0 → ⊥) → Settles r caps cells up down t out out (S.Refused f)
+  pub settle_refused : (f : Outcome) → f ≡ settle_refusal r caps cells up down t (length out) → (f.number ≡ 0 → ⊥) → Settles r caps cells up down t out out (S.Refused f)
   unfolding settle_answer settle_output settle_meaning
   settle_refused f e n =
       let k = refuses (settle_call r caps cells up down t (length out)) e n in
       record {
         answer = rw k.no (ap S.Refused e);
-        means = rw k.no (ap (λ (g : Refusal). settled_meaning (S.Refused g)) e);
+        means = rw k.no (ap (λ (g : Outcome). settled_meaning (S.Refused g)) e);
         output = rw k.no refl;
         judged = k.judged;
         settlement = λ d q. absurd (true≢false (cc q));

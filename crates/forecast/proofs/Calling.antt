@@ -14,7 +14,7 @@ use Rattle.scheme.specs.Sums.{Below}
 use Rattle.scheme.specs.Calls.{Ready, ReadyToRun, Ran, SettledTo}
 use Rattle.scheme.specs.declared.many_steps.Totals.{Totals}
 use Rattle.scheme.specs.declared.settling.Settled.{Settled}
-use Rattle.forecast.specs.declared.settling.SettleAnswer.TheVariants as S
+use Rattle.refusal.specs.Answer as S
 use Rattle.forecast.specs.Forecast.{InputChecked}
 use Rattle.forecast.specs.Settle.{settle_refusal, SettleChecked, Settles}
 use Rattle.forecast.proofs.Answers.{settle_done}

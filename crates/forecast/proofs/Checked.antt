@@ -11,7 +11,7 @@ use Rattle.choice.proofs.Choice.{or_left, or_right, neither}
 use Rattle.refusal.specs.Table.{refused, passed, or_if}
 use Rattle.road.specs.Ceilings.{cells_ceiling, horizon_ceiling}
 use Rattle.road.specs.declared.Road.{Road}
-use Rattle.refusal.specs.declared.Refusal.{Refusal}
+use Rattle.refusal.specs.Outcome.{Outcome}
 use Rattle.refusal.proofs.Table.{Passing, ◌&◌, condition_of, none_holds, all_pass, next_check, judge_append}
 use Rattle.road.proofs.Acceptance.{accepted_by, road_passes}
 use Rattle.refusal.proofs.Parts.{part_stands, part_clear, parts_pass}
@@ -41,7 +41,7 @@ module _ (totals own : Totals) where
 
 module _ (r : Road) (caps cells ups downs : List ℕ) (t out : ℕ) where
   -- a refusal of the shape stands
-  pub shape_stands : (f : Refusal) → f ≡ shape_refusal r (length caps) (length cells) (length ups) (length downs) t out → (f.number ≡ 0 → ⊥) → f ≡ input_refusal r caps cells ups downs t out
+  pub shape_stands : (f : Outcome) → f ≡ shape_refusal r (length caps) (length cells) (length ups) (length downs) t out → (f.number ≡ 0 → ⊥) → f ≡ input_refusal r caps cells ups downs t out
   unfolding shape_refusal input_refusal
   shape_stands = part_stands (shape_checks r (length caps) (length cells) (length ups) (length downs) t out) (value_checks r cells ups downs)
 
@@ -94,7 +94,7 @@ module _ (r : Road) (caps cells ups downs : List ℕ) (t out : ℕ) where
 
   module _ (totals : Totals) where
     -- a refusal by the checks before 19 stands
-    pub input_stands : (f : Refusal) → f ≡ input_refusal r caps cells ups downs t out → (f.number ≡ 0 → ⊥) → f ≡ forecast_refusal r caps cells ups downs t totals out
+    pub input_stands : (f : Outcome) → f ≡ input_refusal r caps cells ups downs t out → (f.number ≡ 0 → ⊥) → f ≡ forecast_refusal r caps cells ups downs t totals out
     unfolding input_refusal forecast_refusal
     input_stands = part_stands (input_checks r caps cells ups downs t out) (total_checks r caps cells ups downs totals)
 
@@ -169,7 +169,7 @@ module _ (r : Road) (caps cells : List ℕ) (up down t out : ℕ) where
     downs_below = copies_below t c.down_below;
   }
 
-  pub settle_shape_stands : (f : Refusal) → f ≡ settle_shape_refusal r (length caps) (length cells) t out → (f.number ≡ 0 → ⊥) → f ≡ settle_refusal r caps cells up down t out
+  pub settle_shape_stands : (f : Outcome) → f ≡ settle_shape_refusal r (length caps) (length cells) t out → (f.number ≡ 0 → ⊥) → f ≡ settle_refusal r caps cells up down t out
   unfolding settle_shape_refusal settle_refusal
   settle_shape_stands = part_stands (settle_shape_checks r (length caps) (length cells) t out) (pair_checks r cells up down)
 

@@ -14,8 +14,8 @@ use Rattle.scheme.specs.Sums.{sum, Below}
 use Rattle.scheme.specs.Rounded.{entered, left}
 use Rattle.scheme.specs.Settling.{settles, settle_steps, settle_cells}
 use Rattle.scheme.proofs.Promises.{round_run_length, round_range, round_balance, round_small, settle_range, settle_length, after_balance}
-use Rattle.forecast.specs.declared.settling.SettleAnswer.{SettleAnswer}
-use Rattle.forecast.specs.declared.settling.SettleAnswer.TheVariants as S
+use Rattle.forecast.specs.Answers.{SettleAnswer}
+use Rattle.refusal.specs.Answer as S
 use Rattle.forecast.specs.Forecast.{forecast_refusal, Checked}
 use Rattle.forecast.specs.Settle.{settle_refusal, settle_answer, settle_output, meaning as settle_meaning, SettleChecked, Settles}
 use Rattle.forecast.specs.Chain.{Call, Site, Commissioned}

@@ -7,9 +7,9 @@ use Rattle.scheme.specs.Sums.{sum, Below}
 use Rattle.scheme.specs.Rounded.{entered, left}
 use Rattle.scheme.specs.declared.settling.Settled.{Settled}
 use Rattle.forecast.specs.declared.forecasting.Record.{Record}
-use Rattle.forecast.specs.declared.forecasting.ForecastAnswer.TheVariants as F
-use Rattle.forecast.specs.declared.settling.SettleAnswer.{SettleAnswer}
-use Rattle.forecast.specs.declared.settling.SettleAnswer.TheVariants as S
+use Rattle.refusal.specs.Answer as F
+use Rattle.forecast.specs.Answers.{SettleAnswer}
+use Rattle.refusal.specs.Answer as S
 use Rattle.forecast.specs.Forecast.{meaning}
 use Rattle.forecast.specs.Settle.{settle_answer, settle_output, meaning as settle_meaning}
 use Rattle.forecast.specs.Chain.{Call, Site, answer_to, after_call}

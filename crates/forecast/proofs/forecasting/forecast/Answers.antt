@@ -3,7 +3,7 @@ use Rattle.std.proofs.Common.{◌≡◌, ℕ, ◌*◌, ◌∙◌, List, sym, sub
 use Rattle.std.proofs.Math.Seq.{length-take-le}
 use Rattle.choice.specs.Choice.{or}
 use Rattle.refusal.proofs.Parts.{same_number}
-use Rattle.refusal.specs.declared.Refusal.{Refusal}
+use Rattle.refusal.specs.Outcome.{Outcome}
 use Rattle.road.specs.Ceilings.{jam_ceiling}
 use Rattle.road.specs.declared.Road.{Road}
 use Rattle.forecast.specs.Forecast.{input_refusal, InputChecked, Forecasts}
@@ -12,7 +12,7 @@ use Rattle.forecast.proofs.Answers.{forecast_refused, forecast_done, most_fits}
 use Rattle.forecast.proofs.forecasting.forecast.Goals as goal
 
 -- past the branch the checks before 19 refuse nothing; the answers below name no test, so that a wrong one fails there
-checked : {r : Road} {caps cells ups downs : List ℕ} {t out : ℕ} {f : Refusal} → f ≡ input_refusal r caps cells ups downs t out → f.number ≡ 0
+checked : {r : Road} {caps cells ups downs : List ℕ} {t out : ℕ} {f : Outcome} → f ≡ input_refusal r caps cells ups downs t out → f.number ≡ 0
     → InputChecked r caps cells ups downs t out
 checked e z = input_checked _ _ _ _ _ _ _ (same_number e z)
 

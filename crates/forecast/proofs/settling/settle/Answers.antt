@@ -2,7 +2,7 @@
 use Rattle.std.proofs.Common.{◌≡◌, ℕ, List, length, arith}
 use Rattle.refusal.proofs.Parts.{same_number}
 use Rattle.refusal.proofs.Calls as Calls
-use Rattle.refusal.specs.declared.Refusal.{Refusal}
+use Rattle.refusal.specs.Outcome.{Outcome}
 use Rattle.road.specs.declared.Road.{Road}
 use Rattle.forecast.specs.Settle.{settle_refusal, SettleChecked}
 use Rattle.forecast.proofs.Checked.{settle_call}
@@ -11,7 +11,7 @@ use Rattle.forecast.proofs.Calling.{in_range, settle_asks, settle_gives}
 use Rattle.forecast.proofs.settling.settle.Goals as goal
 
 -- past the branch nothing is refused; the answers below name no test, so that a wrong one fails there
-checked : {r : Road} {caps cells : List ℕ} {up down t out : ℕ} {f : Refusal} → f ≡ settle_refusal r caps cells up down t out → f.number ≡ 0
+checked : {r : Road} {caps cells : List ℕ} {up down t out : ℕ} {f : Outcome} → f ≡ settle_refusal r caps cells up down t out → f.number ≡ 0
     → SettleChecked r caps cells up down t out
 checked {r} {caps} {cells} {up} {down} {t} {out} e z = Calls.checked (settle_call r caps cells up down t out) (same_number e z)
 
