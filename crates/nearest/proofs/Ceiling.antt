@@ -1,11 +1,10 @@
 -- A quotient rounded up, as std has it and as the thresholds' definition does.
-use mathlib.Core.Path.{◌≡◌, ◌∙◌, sym, ap}
+use mathlib.Core.Path.{◌≡◌, sym, ap}
 use Prim.Native.Nat.{ℕ, ◌+◌, ◌-◌, ◌*◌, ◌/◌, ◌≤◌, ◌<◌}
 use native.Mathlib.Nat.{div-eq_of_lt-le}
 use native.Mathlib.Omega.{arith}
 use Rattle.std.specs.Int.{div_ceil}
 use Rattle.std.proofs.lemmas.Grind.{div_ceil_times}
-use Rattle.road.specs.Judgement.{Accepted}
 use Rattle.road.specs.declared.accepted.AcceptedRoad.{AcceptedRoad}
 use Rattle.flux.specs.Face.{sending}
 use Rattle.flux.specs.Thresholds.{left_threshold}

@@ -7,7 +7,7 @@ use native.Mathlib.Nat.{le_refl, le_trans, lt_of_not-le, not-suc-le-zero, le_of_
 use native.Mathlib.Decide.{dec_le}
 use native.Mathlib.Omega.{arith}
 use lib.Dec.{eqb}
-use lib.IntN.{ℤ, pos, neg_ℤ, nat_abs}
+use lib.IntN.{pos, neg_ℤ, nat_abs}
 use lib.ListN.{length, get_or, set, drop}
 use lib.Seq.{set-get_or}
 use borrow.Author.Tests.{eq-eqb, le-leb, lt-leb, leb-true, lt-ltb, le-ltb, ltb-true}
