@@ -48,6 +48,7 @@ impl CandidateRow {
 
 // Internal: 14, an estimate that is not a number, below 0 or above J; a station's 18 is the same test. The sign of a zero
 // does not count.
+#[tactic(auto, using(crate::proofs::Tests::nan_differs))]
 pub fn bad_estimate(jam: u32, x: f64) -> bool
     ensures { result ≡ bad_estimate jam x }
 {

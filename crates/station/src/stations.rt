@@ -1,7 +1,7 @@
 // Station readings: a detector gives a density, or a flow with a speed, or a speed alone; a filter gets a density.
 ghost use Rattle.std.specs.Prelude.{◌≡◌, IfOk};
 ghost use Rattle.refusal.specs.Answer.{answer_of, judged_of};
-ghost use Rattle.station.specs.Station.{whole, bad_number, bad_given, times_divisor, too_fast, speed_density, estimate_of, station_refusal, Stations};
+ghost use Rattle.station.specs.Station.{bad_number, bad_given, times_divisor, too_fast, speed_density, estimate_of, station_refusal, Stations};
 
 use candidate::bad_estimate;
 use refusal::Refusal;
@@ -23,6 +23,7 @@ pub struct Estimate {
 }
 
 // Internal: not a number, below 0 or infinite. The sign of a zero does not count.
+#[tactic(auto, using(crate::proofs::Tests::not_finite_bad, crate::proofs::Tests::finite_low))]
 fn is_bad_number(x: f64) -> bool
     ensures { result ≡ bad_number x }
 {
@@ -85,6 +86,7 @@ impl StationReading {
     }
 
     // Internal: the estimate, or the first of checks 1 to 4 and 16 to 18 that refuses it.
+    #[tactic(auto, using(crate::proofs::StationAnswers::bad_result_lem), unfolding(crate::specs::Station::station_refusal, refusal::specs::Table::or_if))]
     fn judged(self, road: Road) -> Result<Estimate, Refusal>
         ensures refusal { judged_of result ≡ station_refusal road self }
         ensures estimate { IfOk result (λ e. e.density ≡ estimate_of road self) }
@@ -106,7 +108,6 @@ impl StationReading {
 
 // The density estimate of a station's reading: a density unchanged, a flow divided by its speed, or the one density that
 // moves at a lone speed below the free speed, up to the rounding of each operation.
-#[tactic(auto, using(crate::proofs::StationAnswers::station_answers))]
 pub fn station(road: Road, reading: StationReading) -> Result<Estimate, Refusal>
     ensures { Stations road reading (answer_of result) }
 {
