@@ -1,10 +1,10 @@
--- The search for the first line of a key, midway.
-use Rattle.std.proofs.Common.{◌-◌, length}
-use Rattle.cli_scenario.proofs.Loops.{Sought}
+-- No line before has the key: its first line is among the others.
+use Rattle.std.proofs.Common.{◌≡◌, ◌≤◌, ◌+◌, length}
+use Rattle.cli_vocabulary.specs.Pieces.{lines}
+use Rattle.cli_scenario.specs.Values.{line_of}
 use Rattle.cli_scenario.proofs.finding.line_of.Given as goal
 
-abbrev pub invariant-loop-at : goal.invariant-loop-at
-invariant-loop-at l = Sought l.text l.key l.line l.at
-
-abbrev pub decreases-loop-at : goal.decreases-loop-at
-decreases-loop-at l = length l.text - l.at
+abbrev pub invariant-loop-line : goal.invariant-loop-line
+invariant-loop-line l =
+    (l.number + length (lines l.line-iterator.rest.now) ≤ length l.text)
+    × (line_of l.key l.number (lines l.line-iterator.rest.now) ≡ line_of l.key 0 (lines l.text))
