@@ -32,9 +32,10 @@ pub enum Stream {
 }
 
 // How a page is laid out: in lines for a program to read, or as text for people.
-#[derive(Clone, Copy, PartialEq, Eq)]
+#[derive(Clone, Copy, Default, PartialEq, Eq)]
 pub enum Form {
     Lines,
+    #[default]
     Text,
 }
 
