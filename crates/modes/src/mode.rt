@@ -26,7 +26,7 @@ impl Mode {
     // In the order of their codes.
     pub const ALL: [Mode; 7] = [Mode::WW, Mode::WL, Mode::LW, Mode::LD, Mode::DW, Mode::DL, Mode::DD];
 
-    // The mode's code in a list of modes, 1 to 7.
+    // Internal: the mode's code in a list of modes, 1 to 7.
     pub fn code(self) -> u8
         ensures { result ≡ code_of self }
     {
