@@ -1,9 +1,9 @@
 // The word count: how many legal words there are for a number of cells.
 ghost use Rattle.std.specs.Prelude.{◌≡◌, ◌+◌, ◌^◌, ◌<◌, ◌≤◌};
-ghost use Rattle.refusal.specs.Answer.{answer_of};
+ghost use Rattle.refusal.specs.Answer.{answer_of, judged_of};
 ghost use Rattle.road.specs.Ceilings.{count_ceiling};
 ghost use Rattle.counting.specs.WordCount.{word_count};
-ghost use Rattle.counting.specs.Count.{CountsWords};
+ghost use Rattle.counting.specs.Count.{count_refusal, CountsWords};
 
 use refusal::Refusal;
 use road::Road;
@@ -39,6 +39,7 @@ impl Endings {
 }
 
 // Internal: the words of one letter more than there are cells. Up to the ceiling every sum fits 64 bits.
+#[tactic(auto, using(crate::proofs::Turning::begins, crate::proofs::Turning::sum_small, crate::proofs::Turning::turns, crate::proofs::Turning::ends))]
 fn counted(cells: u32) -> u64
     requires { cells ≤ count_ceiling }
     ensures { result ≡ word_count cells }
@@ -50,13 +51,22 @@ fn counted(cells: u32) -> u64
     words.w + words.l + words.d
 }
 
-// The number of legal words of one letter more than there are cells; refused above the ceiling.
-pub fn count(cells: u32) -> Result<WordCount, Refusal>
-    ensures { CountsWords cells (answer_of result) }
+// Internal: check 15, the count's only one.
+#[tactic(auto, unfolding(crate::specs::Count::count_refusal, refusal::specs::Table::or_if))]
+fn judged(cells: u32) -> Result<(), Refusal>
+    ensures { judged_of result ≡ count_refusal cells }
 {
     if Road::COUNT < cells {
         return Err(Refusal::WordCount);
     }
+    Ok(())
+}
+
+// The number of legal words of one letter more than there are cells; refused above the ceiling.
+pub fn count(cells: u32) -> Result<WordCount, Refusal>
+    ensures { CountsWords cells (answer_of result) }
+{
+    judged(cells)?;
     Ok(WordCount {
         words: counted(cells),
     })
