@@ -1,16 +1,15 @@
 -- The judgement of a text by what its lines come to.
 use mathlib.Core.Path.{◌≡◌, refl, ap}
-use mathlib.Core.Bool.{Bool, true, false}
+use mathlib.Core.Bool.{true, false}
 use mathlib.Core.List.{List, [], ◌∷◌}
 use borrow.Author.Tests.{eqb-true, eqb-false}
 use native.Mathlib.Omega.{arith}
 use Prim.Native.Nat.{ℕ, suc}
 use lib.Dec.{eqb}
 use lib.ListN.{length}
-use Rattle.std.specs.Prelude.{Option, Result, Ok, Err}
+use Rattle.std.specs.Prelude.{Result, Ok, Err}
 use Rattle.cli_vocabulary.specs.Pieces.{lines, words, filled, filled_piece}
 use Rattle.cli_vocabulary.specs.Keys.{key_of}
-use Rattle.cli_vocabulary.specs.declared.keys.Key.{Key}
 use Rattle.cli_scenario.specs.Judging.{Judged, wrong_after, line_judged, judged_line, judged_lines, with_key, go_on, at_start, outcome, verdict}
 use Rattle.cli_scenario.specs.declared.judging.Progress.{Progress}
 use Rattle.cli_scenario.specs.declared.judging.Verdict.{Verdict}

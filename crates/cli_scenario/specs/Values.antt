@@ -1,5 +1,6 @@
 -- The values of a key: what its lines give, in their order, and where a list of them is stored.
-use Rattle.std.specs.Prelude.{◌≡◌, List, [], ◌∷◌, ◌++◌, ℕ, suc, ◌+◌, min, length, set, replicate, Option, Some, None, Result, Ok, Err}
+use Rattle.std.specs.Prelude.{◌≡◌, List, [], ◌∷◌, ◌++◌, ℕ, suc, ◌+◌, min, length, set, replicate, position, Option, Result, Ok, Err}
+use Rattle.std.specs.Option.{option_map}
 use Rattle.choice.specs.Choice.{pick}
 use Rattle.cli_vocabulary.specs.Pieces.{lines, words}
 use Rattle.cli_vocabulary.specs.Items.{item_of}
@@ -42,7 +43,6 @@ pub record Stored (out next : List ℕ) (k : ℕ) (vs : List ℕ) (r : ℕ) : Ty
   pub list : next ≡ overlaid out k vs
   pub filled : r ≡ min (k + length vs) (length out)
 
--- the number of the first line of a key, among lines before which k others stand; lines count from 1
-unfoldable pub line_of : Key → ℕ → List (List ℕ) → Option ℕ
-line_of key k [] = None
-line_of key k (l ∷ ls) = pick (is_key key (key_of (words l))) (Some (suc k)) (line_of key (suc k) ls)
+-- the first line of a key; lines count from 1
+abbrev pub line_of : Key → List ℕ → Option ℕ
+line_of key text = option_map (λ place. place + 1) (position (λ line. is_key key (key_of (words line))) (lines text))

@@ -59,11 +59,10 @@ fn wrong_number(key: Key, n: usize) -> bool
 fn wrong_values(words: Words<'_>, key: Key) -> Result<(), Fault>
     ensures { result ≡ wrong_values key (words_in words.entry.rest.now) }
 {
-    let values = Words { rest: words.rest };
     if wrong_number(key, words.count()) {
         Err(Fault::WrongCount)
     } else {
-        wrong_value(values, key)
+        wrong_value(words, key)
     }
 }
 

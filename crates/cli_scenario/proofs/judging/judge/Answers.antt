@@ -1,5 +1,5 @@
 -- `cli_scenario::judge` meets its contract: the first line that is wrong, or what all lines come to.
-use Rattle.std.proofs.Common.{◌≡◌, ◌∙◌, sym, refl, true, false, arith, ap, length, eqb}
+use Rattle.std.proofs.Common.{◌∙◌, sym, refl, arith, ap, length}
 use Rattle.std.proofs.lemmas.Result.{err_from_is_err_and}
 use Rattle.cli_scenario.specs.Judging.{judged_lines, verdict}
 use Rattle.cli_scenario.proofs.Counting.{lines_few}
@@ -24,8 +24,7 @@ returns-in_err-p c =
 pub loop-line-preserved : goal.loop-line-preserved
 unfolding judged_lines
 loop-line-preserved c =
-    let on = next_line c.loop-line.p c.in_ok-p.p c.in-Some.line.now c.in_ok-p.ensures in
-    (
+    let on = next_line c.loop-line.p c.in_ok-p.p c.in-Some.line.now c.in_ok-p.ensures in (
       omega (arith, on, ap length c.in-Some.ensures.steps),
       rw (c.in-Some.ensures.steps, sym c.in_ok-p.ensures) at c.loop-line.invariant.1,
     )
