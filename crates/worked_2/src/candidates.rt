@@ -2,6 +2,7 @@
 use candidate::CandidateAnswer;
 use printing::Page;
 use road::Road;
+use std::num::f64_to_bits_with_nan;
 use worked::print;
 use worked::roads::{A, P_6};
 
@@ -34,7 +35,7 @@ static CASES: [Case; 11] = [
 
 // Whether two floats are the same, the sign of a zero counted.
 fn same(x: f64, expected: f64) -> bool {
-    x == expected && x.is_sign_negative() == expected.is_sign_negative()
+    f64_to_bits_with_nan(x) == f64_to_bits_with_nan(expected)
 }
 
 // Numerators, and the refusals of modes, of estimates and of a road, which goes before the rest.
