@@ -11,7 +11,7 @@ use worked::print;
 #[derive(Clone, Copy)]
 struct Face(Named, u32, u32);
 
-const CASES: [Face; 18] = [
+static CASES: [Face; 18] = [
     Face(A, 1, 0),
     Face(A, 2, 0),
     Face(A, 3, 0),
@@ -34,7 +34,8 @@ const CASES: [Face; 18] = [
 
 // The faces, one by one. A face is that before the one cell of a forecast over one step: what enters is what it moves.
 pub fn cases(page: &mut Page) {
-    for Face(Named(name, road), before, after) in CASES {
+    for case in &CASES {
+        let Face(Named(name, road), before, after) = *case;
         write!(page, "{name}, face ({before}, {after})");
         let one_step = Forecast {
             name,

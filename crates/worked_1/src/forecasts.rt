@@ -38,7 +38,7 @@ const JAM: Forecast = Forecast {
     ..WORKED
 };
 
-const CASES: [Forecast; 17] = [
+static CASES: [Forecast<'static>; 17] = [
     Forecast {
         name: "one cell 101, ends 0",
         cells: &[101],
@@ -132,7 +132,7 @@ const CASES: [Forecast; 17] = [
     },
 ];
 
-const EDGES: [Forecast; 13] = [
+static EDGES: [Forecast<'static>; 13] = [
     Forecast {
         name: "n 3, T 0",
         cells: &[300; 3],
@@ -231,14 +231,14 @@ const EDGES: [Forecast; 13] = [
 
 // The worked cases, and a refusal for each number of a forecast.
 pub fn cases(page: &mut Page) {
-    for forecast in CASES {
+    for forecast in &CASES {
         forecast.show(page);
     }
 }
 
 // The accepted edges, and one beyond each.
 pub fn edges(page: &mut Page) {
-    for forecast in EDGES {
+    for forecast in &EDGES {
         forecast.show(page);
     }
 }

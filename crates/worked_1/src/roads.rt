@@ -24,7 +24,7 @@ pub const D_2177: Named = Named(
 
 pub const SLOWEST: Named = Named("road D 4096, p q 1, J 1000000, C 500000", roads::SLOWEST);
 
-const CASES: [Named; 15] = [
+static CASES: [Named; 15] = [
     A,
     NARROWEST,
     Named("road A with p 6", roads::P_6),
@@ -44,9 +44,9 @@ const CASES: [Named; 15] = [
 
 // Roads that are accepted and roads that are refused.
 pub fn cases(page: &mut Page) {
-    for Named(name, road) in CASES {
+    for Named(name, road) in &CASES {
         write!(page, "{name}");
-        print::refusal(page, road::judged(road));
+        print::refusal(page, road::judged(*road));
         writeln!(page);
     }
 }

@@ -26,7 +26,7 @@ const THREE: Settling = Settling {
     ..ONE
 };
 
-const CASES: [Settling; 17] = [
+static CASES: [Settling<'static>; 17] = [
     ONE,
     Settling {
         caps: &[9, 80],
@@ -104,7 +104,7 @@ const CASES: [Settling; 17] = [
 
 // All cases, two lines each: a state by its numbers, and what each of the two calls makes of it.
 pub fn cases(page: &mut Page) {
-    for settling in CASES {
+    for settling in &CASES {
         let ups = lists::ends(settling.up);
         let downs = lists::ends(settling.down);
         let mut out = lists::cells(7);
@@ -115,14 +115,14 @@ pub fn cases(page: &mut Page) {
             .tell(page, lists::first(&mut out, settling.places));
         let settling = Settling {
             name: "settling the same",
-            ..settling
+            ..*settling
         };
         settling.show(page);
     }
 }
 
 // What is checked before 19, and that a closed face leaves a total as it is.
-const FULL: [Forecast; 3] = [
+static FULL: [Forecast<'static>; 3] = [
     Forecast {
         name: "both totals the largest, a cell above J and two caps",
         cells: &[1001],
@@ -141,7 +141,7 @@ const FULL: [Forecast; 3] = [
 ];
 
 pub fn full_totals(page: &mut Page) {
-    for forecast in FULL {
+    for forecast in &FULL {
         forecast.show(page);
     }
 }

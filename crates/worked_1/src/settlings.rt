@@ -25,7 +25,7 @@ const TWO: Settling = Settling {
     ..ONE
 };
 
-const CASES: [Settling; 14] = [
+static CASES: [Settling<'static>; 14] = [
     Settling {
         name: "settling one cell 2, ends 0, T 9",
         ..ONE
@@ -107,7 +107,7 @@ const CASES: [Settling; 14] = [
 ];
 
 pub fn cases(page: &mut Page) {
-    for settling in CASES {
+    for settling in &CASES {
         settling.show(page);
     }
 }

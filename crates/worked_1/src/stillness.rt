@@ -11,7 +11,7 @@ use worked::lists;
 #[derive(Clone, Copy)]
 struct Case(Named, &'static [u32], u32, u32, &'static [u32]);
 
-const CASES: [Case; 10] = [
+static CASES: [Case; 10] = [
     Case(NARROWEST, &[1, 0], 0, 9, &[OPEN; 3]),
     Case(NARROWEST, &[1, 0], 0, 1, &[OPEN; 3]),
     Case(NARROWEST, &[1, 0], 0, 2, &[OPEN; 3]),
@@ -27,7 +27,8 @@ const CASES: [Case; 10] = [
 // All cases: a settling run by its numbers, and whether a forecast leaves the same cells. A refused one leaves the 7s that
 // it found, which no case comes to.
 pub fn cases(page: &mut Page) {
-    for Case(Named(name, road), cells, up, horizon, caps) in CASES {
+    for case in &CASES {
+        let Case(Named(name, road), cells, up, horizon, caps) = *case;
         let settling = Settling {
             name,
             road,

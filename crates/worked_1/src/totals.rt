@@ -32,7 +32,7 @@ pub const LARGEST: Forecast = Forecast {
     ..STARRED
 };
 
-const CASES: [Forecast; 8] = [
+static CASES: [Forecast<'static>; 8] = [
     STARRED,
     Forecast {
         name: "total left that comes to the largest",
@@ -96,7 +96,7 @@ fn count(page: &mut Page, d: Record) {
 
 // The increase, the largest total, and one unit past it.
 pub fn cases(page: &mut Page) {
-    for forecast in CASES {
+    for forecast in &CASES {
         let mut out = [7];
         write!(page, "{}", forecast.name);
         match forecast.made(&mut out) {
@@ -109,7 +109,7 @@ pub fn cases(page: &mut Page) {
 }
 
 // The upstream and the downstream end of each call of a chain: the third is refused.
-const CHAIN: [(u32, u32); 5] = [(100, 0), (100, 0), (1001, 0), (120, 0), (150, 900)];
+static CHAIN: [(u32, u32); 5] = [(100, 0), (100, 0), (1001, 0), (120, 0), (150, 900)];
 
 // A site's cells and totals go through the calls, from the worked case's cells on, which have 1150 units: at every line 1150
 // and the total entered are the units of the cells and the total left. A refused call leaves both as they were.
@@ -119,13 +119,13 @@ pub fn chain(page: &mut Page) {
         entered: 0,
         left: 0,
     };
-    for (up, down) in CHAIN {
+    for (up, down) in &CHAIN {
         write!(page, "chain, ends {up} and {down}");
         let mut out = [7; 3];
         let step = Forecast {
             cells: &cells,
-            ups: &[up],
-            downs: &[down],
+            ups: &[*up],
+            downs: &[*down],
             caps: &[OPEN; 4],
             totals,
             ..STARRED
