@@ -1,13 +1,14 @@
 // What --help and --version print, and what a wrong argument gets.
+use super::options::Wrong;
 use super::words;
-use printing::page::{Page, Streams};
-use printing::{page, say};
+use printing::{Form, Page, Stream, Streams, WORD};
 use std::rt::Env;
+use version::{MAJOR, MINOR, PATCH};
 
 fn synopsis(page: &mut Page) {
-    say::text(
+    write!(
         page,
-        b"usage: welgadou [--lines] [--picture OUT.bmp] [FILE]
+        "usage: welgadou [--lines] [--picture OUT.bmp] [FILE]
 Reads a scenario from FILE, or from standard input where FILE is missing or -,
 and does what it asks. Bad input is refused with a number and a place.
 
@@ -27,9 +28,9 @@ several the largest.
 }
 
 fn given(page: &mut Page) {
-    say::text(
+    write!(
         page,
-        b"A scenario has a keyword and its values on each line; # starts a comment.
+        "A scenario has a keyword and its values on each line; # starts a comment.
 A value is N; in lists also N^K for N, K times: cells 20^40 is 40 cells of
 density 20. The last keyword is end.
 
@@ -55,9 +56,9 @@ density 20. The last keyword is end.
 }
 
 fn asked(page: &mut Page) {
-    say::text(
+    write!(
         page,
-        b"  forecast           needs road cells upstream downstream horizon; takes totals
+        "  forecast           needs road cells upstream downstream horizon; takes totals
                      and caps
   settle             needs road cells pair horizon; takes caps
   read               needs road cells pair; the state at the start
@@ -80,57 +81,28 @@ pub fn help(page: &mut Page) {
     asked(page);
 }
 
-// What is said of the version and of wrong arguments.
-const FORMS: [u8; 154] = *b"welgadou %.%.%|
-usage: welgadou [--lines] [--picture OUT.bmp] [FILE], or --help|
-unexpected argument: 
-(an empty one)
---picture needs the path of a file|
-";
-
-const VERSION: usize = 0;
-
-const USAGE: usize = 1;
-
-const UNEXPECTED: usize = 2;
-
-const EMPTY: usize = 3;
-
-const NO_PATH: usize = 4;
-
-fn say(page: &mut Page, form: usize, a: u64, b: u64, c: u64) {
-    say::form(page, &FORMS, form, a, b, c, 0);
-}
-
 // What --version prints.
 pub fn version(page: &mut Page) {
-    say(
-        page,
-        VERSION,
-        version::MAJOR as u64,
-        version::MINOR as u64,
-        version::PATCH as u64,
-    );
+    writeln!(page, "welgadou {MAJOR}.{MINOR}.{PATCH}");
 }
 
-// An argument that is not understood.
-pub fn refused(rt: &impl Env, streams: Streams, place: usize) {
-    let mut page = page::open(streams, page::ERRORS);
-    say(&mut page, UNEXPECTED, 0, 0, 0);
-    if words::is_argument(rt, place, b"") {
-        say(&mut page, EMPTY, 0, 0, 0);
-    } else {
-        words::show(rt, &mut page, place, say::WORD);
+// What is wrong with the arguments.
+pub fn refused(rt: &impl Env, streams: Streams, wrong: Wrong) {
+    let mut page = Page::open(streams, Stream::Errors, Form::Text);
+    match wrong {
+        Wrong::Argument(place) => {
+            write!(page, "unexpected argument: ");
+            if words::is_argument(rt, place, b"") {
+                write!(page, "(an empty one)");
+            } else {
+                words::show(rt, &mut page, place, WORD);
+            }
+        }
+        Wrong::NoPath => write!(page, "--picture needs the path of a file"),
     }
-    page::put(&mut page, b'\n');
-    say(&mut page, USAGE, 0, 0, 0);
-    page::sent(&mut page);
-}
-
-// --picture as the last argument, or with an empty path.
-pub fn without_path(streams: Streams) {
-    let mut page = page::open(streams, page::ERRORS);
-    say(&mut page, NO_PATH, 0, 0, 0);
-    say(&mut page, USAGE, 0, 0, 0);
-    page::sent(&mut page);
+    writeln!(
+        page,
+        "\nusage: welgadou [--lines] [--picture OUT.bmp] [FILE], or --help"
+    );
+    page.send();
 }

@@ -1,24 +1,10 @@
 -- What a reader of the picture counts on: the ends of the shades, their order, and the order of the colours.
 use mathlib.Core.Path.{◌≡◌}
-use mathlib.Core.List.{[], ◌∷◌}
-use lib.ListN.{get_or}
 use Prim.Native.Nat.{ℕ, ◌+◌, ◌*◌, ◌/◌, ◌≤◌, ◌<◌}
-use native.Mathlib.Nat.{div-lt_iff_lt-mul, mul-le-mul, zero-div, mul-div-le, le-div_iff_mul-le, mul_comm}
+use native.Mathlib.Nat.{zero-div, mul-div-le, le-div_iff_mul-le, mul_comm}
 use native.Mathlib.Omega.{arith}
 use borrow.Author.Tests.{lt-ltb, le-ltb}
 use Rattle.cli_picture.specs.Colours.{shade_of, channel_of, blue_of, green_of, red_of}
-
--- a quotient by more than the density is below 256
-pub below_256 : (density jam : ℕ) → density < jam → 255 * density / jam < 256
-below_256 density jam h = (div-lt_iff_lt-mul {k = jam} {x = 255 * density} {y = 256} (omega arith)).1 (omega arith)
-
--- the rows of a picture and its start take at most 32 bits
-pub pixels_few : (row height : ℕ) → row ≤ 65536 → height < 65536 → row * height ≤ 65536 * 65535
-pixels_few row height r h = mul-le-mul {n₁ = row} {m₁ = height} {n₂ = 65536} {m₂ = 65535} r (omega arith)
-
--- a list of three equal parts
-pub parts : (i b g r b' g' r' : ℕ) → b ≡ b' → g ≡ g' → r ≡ r' → get_or (b ∷ g ∷ r ∷ 0 ∷ []) i 0 ≡ get_or (b' ∷ g' ∷ r' ∷ 0 ∷ []) i 0
-parts i b g r b' g' r' x y z = cc
 
 -- an empty cell has shade 0, and a full one 255
 pub empty_is_0 : (jam : ℕ) → 0 < jam → shade_of 0 jam ≡ 0

@@ -1,7 +1,7 @@
 // The start of a bitmap file, before its rows: two letters, thirteen numbers of four bytes each, and the palette.
 ghost use Rattle.std.specs.Prelude.{◌≡◌, ◌<◌, length};
 ghost use Rattle.cli_picture.specs.Listed.{listed};
-ghost use Rattle.cli_picture.specs.Bitmap.{byte_of, header_word, palette_byte, start_byte, letter_byte};
+ghost use Rattle.cli_picture.specs.Bitmap.{byte_of, header_word, palette_byte, start_byte};
 
 use super::palette::channel;
 use super::sizes::row_bytes;
@@ -11,13 +11,7 @@ pub fn byte_of(n: u32, i: usize) -> u8
     requires { i < 4 }
     ensures { result ≡ byte_of n i }
 {
-    let bytes = [
-        (n % 256) as u8,
-        (n / 256 % 256) as u8,
-        (n / 65536 % 256) as u8,
-        (n / 16777216 % 256) as u8,
-    ];
-    bytes[i]
+    n.to_le_bytes()[i]
 }
 
 // Number k of the thirteen that follow the two letters.
@@ -26,14 +20,14 @@ fn header_word(k: usize, width: u16, height: u16) -> u32
     requires { k < 13 }
     ensures { result ≡ header_word width height k }
 {
-    let pixels = row_bytes(width) * (height as u32);
+    let pixels = row_bytes(width) * u32::from(height);
     let words = [
         pixels + 1078,
         0,
         1078,
         40,
-        width as u32,
-        height as u32,
+        u32::from(width),
+        u32::from(height),
         524289,
         0,
         pixels,
@@ -52,22 +46,12 @@ fn palette_byte(k: usize) -> u8
     ensures { result ≡ palette_byte k }
 {
     let shade = (k / 4) as u8;
-    let parts = [
+    [
         channel(0, shade),
         channel(85, shade),
         channel(170, shade),
         0,
-    ];
-    parts[k % 4]
-}
-
-// The letters BM.
-fn letter_byte(at: usize) -> u8
-    requires { at < 2 }
-    ensures { result ≡ letter_byte at }
-{
-    let letters = [66u8, 77u8];
-    letters[at]
+    ][k % 4]
 }
 
 // Byte `at` of a file of width times height pixels, up to its first row.
@@ -75,24 +59,20 @@ fn letter_byte(at: usize) -> u8
 pub fn start_byte(width: u16, height: u16, at: usize) -> u8
     ensures { result ≡ start_byte width height at }
 {
-    if at < 2 {
-        letter_byte(at)
-    } else if at < 54 {
-        byte_of(header_word((at - 2) / 4, width, height), (at - 2) % 4)
-    } else if at < 1078 {
-        palette_byte(at - 54)
-    } else {
-        0
+    match at {
+        0..2 => b"BM"[at],
+        2..54 => byte_of(header_word((at - 2) / 4, width, height), (at - 2) % 4),
+        54..1078 => palette_byte(at - 54),
+        _ => 0,
     }
 }
 
 // The output then holds the file's bytes from its first one on; 1,078 of them come before the rows.
+#[tactic(auto, using(crate::proofs::Listing::begins, crate::proofs::Listing::turns, crate::proofs::Listing::ends))]
 pub fn write_start(width: u16, height: u16, out: &mut [u8])
     ensures { out.new ≡ listed (length out.old) (start_byte width height) }
 {
-    let mut i = 0;
-    while i < out.len() {
-        out[i] = start_byte(width, height, i);
-        i += 1;
+    for (i, b) in out.iter_mut().enumerate() {
+        *b = start_byte(width, height, i);
     }
 }

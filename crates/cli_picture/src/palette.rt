@@ -7,7 +7,7 @@ pub fn shade(density: u32, jam: u32) -> u8
     ensures { result ≡ shade_of density jam }
 {
     if density < jam {
-        (255 * (density as u64) / (jam as u64)) as u8
+        (255 * u64::from(density) / u64::from(jam)) as u8
     } else {
         255
     }
@@ -18,9 +18,6 @@ pub fn shade(density: u32, jam: u32) -> u8
 pub fn channel(start: u8, shade: u8) -> u8
     ensures { result ≡ channel_of start shade }
 {
-    if shade <= start {
-        return 255;
-    }
-    let fall = 3 * ((shade - start) as u32);
-    if fall < 255 { (255 - fall) as u8 } else { 0 }
+    let fall = 3 * u32::from(shade.saturating_sub(start));
+    255u32.saturating_sub(fall) as u8
 }

@@ -11,17 +11,16 @@ fn pixel(shades: &[u8], across: u32, x: usize) -> u8
     if across == 0 {
         return 0;
     }
-    let step = x / (across as usize);
-    if step < shades.len() { shades[step] } else { 0 }
+    let step = x / across as usize;
+    shades.get(step).copied().unwrap_or(0)
 }
 
 // The output then holds a row's bytes, each shade `across` times.
+#[tactic(auto, using(crate::proofs::Listing::begins, crate::proofs::Listing::turns, crate::proofs::Listing::ends))]
 pub fn stretch(shades: &[u8], across: u32, out: &mut [u8])
     ensures { out.new ≡ listed (length out.old) (pixel_of shades.now across) }
 {
-    let mut i = 0;
-    while i < out.len() {
-        out[i] = pixel(shades, across, i);
-        i += 1;
+    for (x, b) in out.iter_mut().enumerate() {
+        *b = pixel(shades, across, x);
     }
 }

@@ -9,19 +9,12 @@ pub fn scale(count: u32, target: u32) -> u32
     if count == 0 {
         return 1;
     }
-    let whole = target / count;
-    if whole < 1 {
-        1
-    } else if 32 < whole {
-        32
-    } else {
-        whole
-    }
+    (target / count).clamp(1, 32)
 }
 
 // A row's bytes: one a pixel, filled up to a multiple of four.
 pub fn row_bytes(width: u16) -> u32
     ensures { result ≡ row_bytes width }
 {
-    (width as u32 + 3) / 4 * 4
+    (u32::from(width) + 3) / 4 * 4
 }

@@ -1,8 +1,11 @@
-// Printing: pages that gather what a program writes, and the texts, numbers and lists on them.
+// Printing: pages that gather what a program writes, and the words, lists and doubles on them.
 #![tactic(auto)]
 
 pub mod doubles;
-pub mod lists;
-pub mod page;
-pub mod say;
+mod lists;
+mod page;
 mod system;
+mod words;
+
+pub use page::{Form, Page, Stream, Streams};
+pub use words::{NAME, WORD, plural};

@@ -1,102 +1,76 @@
-// Lists of numbers: one after the other on a line, or in rows of ten with the first one's number in front.
-use super::page::Page;
-use super::{page, say};
+// Lists: their entries one after the other on a line, or in rows of ten with the first one's number in front.
+use super::page::{Form, Page};
+use std::fmt::Display;
 
-// What stands before entry i of a list whose first entry has the number `first`.
-fn before(page: &mut Page, lines: bool, i: usize, first: u64) {
-    if lines {
-        page::put(page, b' ');
-        return;
+// The letter of a code.
+fn letter(code: u8) -> char {
+    match code {
+        0 => 'W',
+        1 => 'L',
+        _ => 'D',
     }
-    if i % 10 == 0 {
-        if i != 0 {
-            page::put(page, b'\n');
+}
+
+impl Page {
+    // What stands before entry i of a list whose first entry has the number `first`.
+    fn before(&mut self, i: usize, first: usize) {
+        if self.form() == Form::Lines {
+            write!(self, " ");
+        } else if i % 10 == 0 {
+            if i != 0 {
+                writeln!(self);
+            }
+            let number = i.wrapping_add(first);
+            write!(self, "{number:>6}:");
         }
-        say::column(page, std::num::wrapping_add_u64(i as u64, first), 6);
-        page::put(page, b':');
     }
-}
 
-// One entry, in its column.
-fn entry(page: &mut Page, lines: bool, i: usize, n: u64) {
-    before(page, lines, i, 1);
-    if lines {
-        say::number(page, n);
-    } else {
-        say::column(page, n, 9);
+    // A list whose first entry has the number `first`; on a page of text each entry in its column.
+    fn entries<T: Display + Copy, F: Fn(&mut Page, T) + Drop>(
+        &mut self,
+        first: usize,
+        entries: &[T],
+        in_column: F,
+    )
+        requires { F.IsAlwaysCallable in_column }
+    {
+        for (i, entry) in entries.iter().enumerate() {
+            self.before(i, first);
+            match self.form() {
+                Form::Lines => write!(self, "{entry}"),
+                Form::Text => in_column(self, *entry),
+            }
+        }
+        if self.form() == Form::Text {
+            writeln!(self);
+        }
     }
-}
 
-fn signed_entry(page: &mut Page, lines: bool, i: usize, n: i64) {
-    before(page, lines, i, 1);
-    if lines {
-        say::signed(page, n);
-    } else {
-        say::signed_column(page, n, 11);
+    // Numbers of cells, from cell 1 on.
+    pub fn list<T: Display + Copy>(&mut self, numbers: &[T]) {
+        self.entries(1, numbers, |page, n| write!(page, "{n:>9}"));
     }
-}
 
-// A mode, or a letter by its code where it is to be read by people. Faces count from 0, cells from 1.
-fn code_entry(page: &mut Page, lines: bool, is_letter: bool, i: usize, code: u8) {
-    if lines {
-        entry(page, true, i, code as u64);
-    } else if is_letter {
-        before(page, false, i, 0);
-        say::text(page, &[b' ', b' ', letter(code)]);
-    } else {
-        entry(page, false, i, code as u64);
+    // The letters of faces by their codes, from face 0 on; on a line the codes themselves.
+    pub fn letters(&mut self, codes: &[u8]) {
+        self.entries(0, codes, |page, code| {
+            let letter = letter(code);
+            write!(page, "  {letter}")
+        });
     }
-}
 
-// A letter by its code.
-fn letter(code: u8) -> u8 {
-    if code == 0 {
-        b'W'
-    } else if code == 1 {
-        b'L'
-    } else {
-        b'D'
+    // The numerators of cells, from cell 1 on.
+    pub fn numerators(&mut self, xs: &[i64]) {
+        self.entries(1, xs, |page, x| page.signed(x, 11));
     }
-}
 
-// What stands after a list that is read by people.
-fn after(page: &mut Page, lines: bool) {
-    if !lines {
-        page::put(page, b'\n');
+    // A number in a column that has so many places for its digits, and in front of them one for its sign.
+    pub fn signed(&mut self, n: i64, places: usize) {
+        if n < 0 {
+            let width = places.saturating_add(1);
+            write!(self, "  {n:>width$}");
+        } else {
+            write!(self, "   {n:>places$}");
+        }
     }
-}
-
-fn wide(x: u32) -> u64 {
-    x as u64
-}
-
-// The densities of the cells, from cell 1.
-pub fn densities(page: &mut Page, lines: bool, xs: &[u32]) {
-    for i in 0..xs.len() {
-        entry(page, lines, i, wide(xs[i]));
-    }
-    after(page, lines);
-}
-
-// The modes of the cells, from cell 1, or the letters of the faces, from face 0.
-pub fn codes(page: &mut Page, lines: bool, are_letters: bool, xs: &[u8]) {
-    for i in 0..xs.len() {
-        code_entry(page, lines, are_letters, i, xs[i]);
-    }
-    after(page, lines);
-}
-
-// The changes of the cells at their places of a ranking, on a line.
-pub fn changes(page: &mut Page, xs: &[i32]) {
-    for i in 0..xs.len() {
-        signed_entry(page, true, i, say::widened(xs[i]));
-    }
-}
-
-// The numerators of the cells, from cell 1.
-pub fn numerators(page: &mut Page, lines: bool, xs: &[i64]) {
-    for i in 0..xs.len() {
-        signed_entry(page, lines, i, xs[i]);
-    }
-    after(page, lines);
 }

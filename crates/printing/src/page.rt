@@ -1,7 +1,10 @@
 // A page: what is to be written to a stream, gathered until the page is full or is sent, and whether all of it went out.
-ghost use Rattle.std.specs.Prelude.{◌≤◌};
+ghost use Rattle.std.specs.Prelude.{◌≡◌, ◌<◌, [], ◌∷◌, ◌++◌};
+ghost use Rattle.arrayvec.specs.ArrayVec.{array_vec_len};
 
 use super::system;
+use arrayvec::ArrayVec;
+use std::fmt;
 use std::io::{Error, Print};
 use std::rt::{Stderr, Stdout};
 
@@ -12,78 +15,110 @@ pub struct Streams {
     pub errors: Stderr,
 }
 
-// Which of the streams a page goes to: standard output or standard error.
-pub const OUTPUT: u8 = 1;
-
-pub const ERRORS: u8 = 2;
-
-const SIZE: usize = 4092;
-
-// A page for one of the streams, with what it holds up to its end.
-#[derive(Drop)]
-pub struct Page {
-    streams: Streams,
-    goes_to: u8,
-    // whether something was lost
-    lost: bool,
-    bytes: [u8; SIZE],
-    end: usize,
-    ghost within: { end ≤ 4092 },
-}
-
-// An empty page.
-pub fn open(streams: Streams, goes_to: u8) -> Page {
-    Page {
-        streams,
-        goes_to,
-        lost: false,
-        bytes: [0u8; SIZE],
-        end: 0,
-    }
-}
-
-// The streams of a page.
-pub fn streams_of(page: &Page) -> Streams {
-    page.streams
-}
-
-// Writes bytes to one of the streams.
-fn write(streams: Streams, goes_to: u8, bytes: &[u8]) -> Result<(), Error> {
-    if goes_to == OUTPUT {
-        streams.output.write_all(bytes)
-    } else {
-        streams.errors.write_all(bytes)
-    }
-}
-
-// Writes what the page holds; whether nothing of it was ever lost. The first loss of standard output is said, and after a
-// loss nothing is tried. (What standard error loses cannot be said anywhere.)
-pub fn sent(page: &mut Page) -> bool {
-    let end = page.end;
-    page.end = 0;
-    if page.lost {
-        return false;
-    }
-    match write(page.streams, page.goes_to, &page.bytes[..end]) {
-        Ok(()) => true,
-        Err(e) => {
-            if page.goes_to == OUTPUT {
-                system::fail(page.streams.errors, b"standard output", e);
-            }
-            page.lost = true;
-            false
+impl Streams {
+    fn write(self, to: Stream, bytes: &[u8]) -> Result<(), Error> {
+        match to {
+            Stream::Output => self.output.write_all(bytes),
+            Stream::Errors => self.errors.write_all(bytes),
         }
     }
 }
 
-// One byte more.
-pub fn put(page: &mut Page, b: u8) {
-    if SIZE <= page.end {
-        sent(page);
+// One of them.
+#[derive(Clone, Copy, PartialEq, Eq)]
+pub enum Stream {
+    Output,
+    Errors,
+}
+
+// How a page is laid out: in lines for a program to read, or as text for people.
+#[derive(Clone, Copy, Default, PartialEq, Eq)]
+pub enum Form {
+    Lines,
+    #[default]
+    Text,
+}
+
+const SIZE: usize = 4092;
+
+// A page for one of the streams.
+#[derive(Drop)]
+pub struct Page {
+    streams: Streams,
+    to: Stream,
+    form: Form,
+    // whether something was lost
+    lost: bool,
+    bytes: ArrayVec<u8, SIZE>,
+}
+
+impl Page {
+    // An empty page.
+    pub fn open(streams: Streams, to: Stream, form: Form) -> Page
+        ensures empty { array_vec_len result.bytes ≡ 0 }
+        ensures form { result.form ≡ form }
+        ensures to { result.to ≡ to }
+    {
+        Page {
+            streams,
+            to,
+            form,
+            lost: false,
+            bytes: ArrayVec::new(),
+        }
     }
-    let end = page.end;
-    if end < SIZE {
-        page.bytes[end] = b;
-        page.end = end + 1;
+
+    pub fn streams(&self) -> Streams
+        ensures { result ≡ self.now.streams }
+    {
+        self.streams
+    }
+
+    pub fn form(&self) -> Form
+        ensures { result ≡ self.now.form }
+    {
+        self.form
+    }
+
+    // Writes what the page holds; whether nothing of it was ever lost. The first loss of standard output is said, and
+    // after a loss nothing is tried. (What standard error loses cannot be said anywhere.)
+    pub fn send(&mut self) -> bool
+        ensures emptied { array_vec_len self.new.bytes ≡ 0 }
+    {
+        if !self.lost {
+            if let Err(e) = self.streams.write(self.to, self.bytes.as_slice()) {
+                if self.to == Stream::Output {
+                    system::tell(self.streams.errors, e);
+                }
+                self.lost = true;
+            }
+        }
+        self.bytes.clear();
+        !self.lost
+    }
+
+    // One byte more, for which a full page is sent.
+    pub fn put(&mut self, b: u8)
+        ensures room { array_vec_len self.old.bytes < 4092 → self.new.bytes.items ≡ self.old.bytes.items ++ b ∷ [] }
+        ensures full { array_vec_len self.old.bytes ≡ 4092 → self.new.bytes.items ≡ b ∷ [] }
+    {
+        if self.bytes.is_full() {
+            self.send();
+        }
+        self.bytes.push(b);
+    }
+
+    // What `write!` and `writeln!` call. A page remembers what it lost, so that there is no result to look at.
+    pub fn write_fmt<D: fmt::Display + Drop>(&mut self, text: D) {
+        let _ = fmt::Write::write_fmt(self, text);
+    }
+}
+
+impl fmt::Write for Page {
+    fn write_str(&mut self, s: &str) -> fmt::Result {
+        for b in s.as_bytes() {
+            self.put(*b);
+        }
+        Ok(())
     }
 }

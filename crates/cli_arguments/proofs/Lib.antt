@@ -1,0 +1,2 @@
+-- Facts on lists that proofs cite.
+pub mod Prefix
