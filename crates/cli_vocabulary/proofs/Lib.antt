@@ -1,8 +1,4 @@
--- Searches, the marks of a text, numbers, the table of keys, and the values of words.
-pub mod Search
+-- The marks of a text, and decimal numbers.
 pub mod Marks
 pub mod Decimal
-pub mod KeyTable
 pub mod Naming
-pub mod Plain
-pub mod Runs

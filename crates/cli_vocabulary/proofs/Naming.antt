@@ -1,103 +1,132 @@
--- Keywords: a word against a name letter by letter, and the search for its place among the names.
-use mathlib.Core.Path.{◌≡◌, refl, sym}
-use mathlib.Core.Bool.{Bool, true, false}
-use mathlib.Core.List.{List, [], ◌∷◌}
-use Prim.Native.Nat.{ℕ, zero, suc, ◌+◌, ◌≤◌, ◌<◌, zero-le}
-use native.Mathlib.Numerals.{add-one}
-use native.Mathlib.Nat.{le_of_suc-le-suc, not-suc-le-zero}
-use native.Mathlib.Omega.{arith}
-use lib.Dec.{T, eqb, leb, eqb→eq, leb-zero, leb-suc-zero, leb-suc-suc}
-use lib.ListN.{length, get_or, drop, drop_of_length-le}
-use lib.Seq.{drop-nil}
-use borrow.Author.Tests.{eq-eqb, ne_eqb}
-use Rattle.choice.specs.Choice.{both}
-use Rattle.choice.proofs.Choice.{both_left, both_right}
+-- Keywords: a word against a name, and the search for its key.
+use mathlib.Core.Path.{◌≡◌, ◌∙◌, refl, ap, sym}
+use mathlib.Core.Bool.{Bool, true, false, cond, ◌&&◌}
+use mathlib.Core.List.{List, [], ◌∷◌, ◌++◌, map}
+use Prim.Native.Nat.{ℕ}
+use lib.Dec.{eqb}
+use lib.ListN.{get_or}
+use denote.Enum.Declared.{tag_of}
+use borrow.Author.Tests.{eq-eqb, eqb-true, eqb-false, ne_eqb}
+use Rattle.std.specs.Prelude.{Option, Some}
+use Rattle.std.specs.Bool.{◌==◌}
+use Rattle.std.specs.List.{list_all, find}
+use Rattle.std.specs.Option.{option_map}
+use Rattle.choice.specs.Choice.{pick, both}
 use Rattle.cli_vocabulary.specs.Ascii.{ascii}
-use Rattle.cli_vocabulary.specs.Keys.{table, none, key_row, key_count, is_name, place_in, key_code, unknown_key}
+use Rattle.cli_vocabulary.specs.Keys.{is_name, key_row, keys, keyword, named_in, key_named}
 use Rattle.cli_vocabulary.specs.declared.keys.Key.{Key}
-use Rattle.cli_vocabulary.proofs.KeyTable.{rows_counted}
-use Rattle.cli_vocabulary.proofs.Search.{until, until_bound, PlaceSought}
+use Rattle.cli_vocabulary.specs.declared.keys.Key.TheVariants.{Road, Cells, Upstream, Downstream, Pair, Horizon, Word, Mode, Estimates, Bits, Forecast, Settle, Read, Fit, Rows, Candidate, Count, End, Density, Flow, Speed, Station, Readlast, Nearest, Totals, Caps}
+use Rattle.cli_vocabulary.specs.declared.keys.Row.{Row}
+use Rattle.cli_vocabulary.specs.contracts.keys.Key.{the_type}
+use Rattle.cli_vocabulary.specs.declared.keys.TheConstants.{TABLE}
 
--- a word and a name from a letter on: that letter, then the rest; after the word's end a blank
-letter_by_letter : (word name : List ℕ) (i : ℕ) → i < length name → is_name (drop i word) (drop i name)
-    ≡ both (eqb (get_or word i 32) (get_or name i 0)) (is_name (drop (suc i) word) (drop (suc i) name))
+eqb_swapped : (a b : ℕ) → eqb a b ≡ eqb b a
+eqb_swapped a b = by_test (eqb b a) refl
+  where
+    by_test : (t : Bool) → eqb b a ≡ t → eqb a b ≡ t
+    by_test true e = eq-eqb a b (sym (eqb-true b a e))
+    by_test false e = ne_eqb a b (λ f. eqb-false b a e (sym f))
+
+pub padding : (rest : List ℕ) → list_all (λ b. b == 32) rest ≡ is_name [] rest
 unfolding is_name
-letter_by_letter word [] i h = absurd (not-suc-le-zero h)
-letter_by_letter [] (c ∷ cs) zero h = refl
-letter_by_letter [] (c ∷ cs) (suc i) h = rw (drop-nil i) at (letter_by_letter [] cs i (le_of_suc-le-suc h))
-letter_by_letter (b ∷ bs) (c ∷ cs) zero h = refl
-letter_by_letter (b ∷ bs) (c ∷ cs) (suc i) h = letter_by_letter bs cs i (le_of_suc-le-suc h)
+padding [] = refl
+padding (b ∷ bs) = rw (eqb_swapped b 32, padding bs) (by_test (eqb 32 b))
+  where
+    by_test : (t : Bool) → t && is_name [] bs ≡ both t (is_name [] bs)
+    by_test true = refl
+    by_test false = refl
 
--- no name is left: neither may the word be
-past_name : (word : List ℕ) (i : ℕ) → is_name (drop i word) [] ≡ leb (length word) i
+-- a name that starts with the word
+pub name_starts : (word rest : List ℕ) → is_name word (word ++ rest) ≡ is_name [] rest
 unfolding is_name
-past_name [] zero = sym (leb-zero zero)
-past_name [] (suc i) = sym (leb-zero (suc i))
-past_name (b ∷ bs) zero = sym (leb-suc-zero (length bs))
-past_name (b ∷ bs) (suc i) = rw leb-suc-suc (past_name bs i)
+name_starts [] rest = refl
+name_starts (b ∷ bs) rest = rw (eq-eqb b b refl) (name_starts bs rest)
 
--- a letter within the word, whatever a place past its end would read as
-pub letter_inside : (word : List ℕ) (i : ℕ) → i < length word → get_or word i 0 ≡ get_or word i 32
-letter_inside [] i h = absurd (not-suc-le-zero h)
-letter_inside (b ∷ bs) zero h = refl
-letter_inside (b ∷ bs) (suc i) h = letter_inside bs i (le_of_suc-le-suc h)
+pub name_differs : (word name : List ℕ) → ((rest : List ℕ) → name ≡ word ++ rest → ⊥) → is_name word name ≡ false
+unfolding is_name
+name_differs [] name n = absurd (n name refl)
+name_differs (b ∷ bs) [] n = refl
+name_differs (b ∷ bs) (c ∷ cs) n = by_test (eqb b c) refl (λ e. name_differs bs cs (λ rest f. n rest (rw (eqb-true b c e, f) refl)))
+  where
+    by_test : (t : Bool) → eqb b c ≡ t → (eqb b c ≡ true → is_name bs cs ≡ false) → both t (is_name bs cs) ≡ false
+    by_test false e more = refl
+    by_test true e more = more e
 
--- the comparison midway: the letters before i are the name's
-pub record NameCompared (word name : List ℕ) (i : ℕ) : Type 0 where
-  pub inside : i ≤ length name
-  pub rest : is_name (drop i word) (drop i name) ≡ is_name word name
+-- a key's row stands at its place
+pub row_at : (other : Row) (key : Key) → get_or TABLE (tag_of the_type key) other ≡ key_row key
+unfolding key_row ascii
+row_at other Road = refl
+row_at other Cells = refl
+row_at other Upstream = refl
+row_at other Downstream = refl
+row_at other Pair = refl
+row_at other Horizon = refl
+row_at other Word = refl
+row_at other Mode = refl
+row_at other Estimates = refl
+row_at other Bits = refl
+row_at other Forecast = refl
+row_at other Settle = refl
+row_at other Read = refl
+row_at other Fit = refl
+row_at other Rows = refl
+row_at other Candidate = refl
+row_at other Count = refl
+row_at other End = refl
+row_at other Density = refl
+row_at other Flow = refl
+row_at other Speed = refl
+row_at other Station = refl
+row_at other Readlast = refl
+row_at other Nearest = refl
+row_at other Totals = refl
+row_at other Caps = refl
 
-module _ (word name : List ℕ) where
-  pub begins : NameCompared word name 0
-  begins = record { inside = zero-le; rest = refl }
+-- the first row of some keys that has the word for its name
+row_key : (key : Key) → (key_row key).0 ≡ key
+unfolding key_row
+row_key Road = refl
+row_key Cells = refl
+row_key Upstream = refl
+row_key Downstream = refl
+row_key Pair = refl
+row_key Horizon = refl
+row_key Word = refl
+row_key Mode = refl
+row_key Estimates = refl
+row_key Bits = refl
+row_key Forecast = refl
+row_key Settle = refl
+row_key Read = refl
+row_key Fit = refl
+row_key Rows = refl
+row_key Candidate = refl
+row_key Count = refl
+row_key End = refl
+row_key Density = refl
+row_key Flow = refl
+row_key Speed = refl
+row_key Station = refl
+row_key Readlast = refl
+row_key Nearest = refl
+row_key Totals = refl
+row_key Caps = refl
 
-  module _ (i : ℕ) (now : NameCompared word name i) where
-    pub differs : i < length name → (get_or word i 32 ≡ get_or name i 0 → ⊥) → false ≡ is_name word name
-    differs h n = rw (letter_by_letter word name i h, ne_eqb (get_or word i 32) (get_or name i 0) n) at now.rest
+found_in : (ks : List Key) (word : List ℕ) → option_map (λ (r : Row). r.0) (find (λ r. is_name word r.1) (map key_row ks)) ≡ named_in ks word
+unfolding named_in
+found_in [] word = refl
+found_in (k ∷ ks) word = by_test (is_name word (keyword k)) (found_in ks word)
+  where
+    by_test : (t : Bool) → option_map (λ (r : Row). r.0) (find (λ r. is_name word r.1) (map key_row ks)) ≡ named_in ks word
+        → option_map (λ (r : Row). r.0) (cond t (Some (key_row k)) (find (λ r. is_name word r.1) (map key_row ks))) ≡ pick t (Some k) (named_in ks word)
+    by_test true more = ap Some (row_key k)
+    by_test false more = more
 
-    turn : i < length name → get_or word i 32 ≡ get_or name i 0 → NameCompared word name (suc i)
-    turn h e = record {
-      inside = h;
-      rest = rw (letter_by_letter word name i h, eq-eqb (get_or word i 32) (get_or name i 0) e) at now.rest;
-    }
+rows : TABLE ≡ map key_row keys
+unfolding key_row keys ascii
+rows = refl
 
-    pub turns : i < length name → get_or word i 32 ≡ get_or name i 0 → NameCompared word name (i + 1)
-    turns = rw (add-one i) turn
-
-    -- after the name's last letter the word has none
-    pub ends : length name ≤ i → leb (length word) (length name) ≡ is_name word name
-    ends h =
-        let all : i ≡ length name = omega (arith, now.inside) in
-        rw (drop_of_length-le name h, past_name word i, all) at now.rest
-
--- every name has ten letters: a test that antt computes, and its law
-tens : List Key → Bool
-tens [] = true
-tens (r ∷ rs) = both (eqb (length r.name) 10) (tens rs)
-
-tens_at : (rs : List Key) → T (tens rs) → (k : ℕ) → k < length rs → length (get_or rs k none).name ≡ 10
-unfolding tens
-tens_at [] t k h = absurd (not-suc-le-zero h)
-tens_at (r ∷ rs) t zero h = eqb→eq (length r.name) 10 (both_left (eqb (length r.name) 10) (tens rs) t)
-tens_at (r ∷ rs) t (suc k) h = tens_at rs (both_right (eqb (length r.name) 10) (tens rs) t) k (le_of_suc-le-suc h)
-
-pub name_length : (k : ℕ) → k < key_count → length (key_row k).name ≡ 10
-unfolding table key_row tens ascii
-name_length k h = tens_at table tt k (rw rows_counted h)
-
--- the search of the names for a word
-abbrev pub is_named : List ℕ → Key → Bool
-is_named word r = is_name word r.name
-
-place_until : (word : List ℕ) (rs : List Key) → until (is_named word) rs ≡ place_in rs word
-unfolding until place_in
-place_until word [] = refl
-place_until word (r ∷ rs) = rw (place_until word rs)
-
-pub key_bound : (word : List ℕ) → key_code word ≤ unknown_key
-unfolding key_code
-key_bound word = rw (place_until word table, rows_counted) at (until_bound (is_named word) table)
-
-pub to_name : (word : List ℕ) → PlaceSought (is_named word) table (key_code word) 0
-unfolding key_code
-to_name word = record { inside = zero-le; rest = let e = place_until word table in omega arith }
+pub key_found : (word : List ℕ) (r : Option Row) → r ≡ find (λ row. is_name word row.1) TABLE → option_map (λ (r : Row). r.0) r ≡ key_named word
+unfolding key_named
+key_found word r e =
+    ap (option_map (λ (r : Row). r.0)) (e ∙ ap (find (λ row. is_name word row.1)) rows) ∙ found_in keys word

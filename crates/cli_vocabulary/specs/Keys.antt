@@ -1,9 +1,13 @@
--- Keys: the keywords of a scenario, one row each: name, whether a list, how many values, how large they may be.
-use Rattle.std.specs.Prelude.{Bool, true, false, List, [], ◌∷◌, ℕ, suc, ◌+◌, eqb, get_or}
+-- Keys: the keywords of a scenario, one row each: key, name, how many values, how large they may be.
+use Rattle.std.specs.Prelude.{Bool, true, false, List, [], ◌∷◌, ℕ, Option, Some, None, eqb}
 use Prim.Native.String.{String}
 use Rattle.choice.specs.Choice.{pick, both}
 use Rattle.cli_vocabulary.specs.Ascii.{ascii}
 use Rattle.cli_vocabulary.specs.declared.keys.Key.{Key}
+use Rattle.cli_vocabulary.specs.declared.keys.Key.TheVariants.{Road, Cells, Upstream, Downstream, Pair, Horizon, Word, Mode, Estimates, Bits, Forecast, Settle, Read, Fit, Rows, Candidate, Count, End, Density, Flow, Speed, Station, Readlast, Nearest, Totals, Caps}
+use Rattle.cli_vocabulary.specs.declared.keys.Values.{Values}
+use Rattle.cli_vocabulary.specs.declared.keys.Values.TheVariants.{Many, Exactly}
+use Rattle.cli_vocabulary.specs.declared.keys.Row.{Row}
 
 -- the largest number: a code or a mode is one byte, a bit pattern or a total 64 bits, any other number 32 bits
 abbrev pub byte : ℕ
@@ -15,53 +19,54 @@ number = 4294967295
 abbrev pub wide : ℕ
 wide = 18446744073709551615
 
--- a keyword's row: its name, padded with blanks to ten letters; whether its lines are joined to a list, and take runs; how many values a line takes,
--- 0 of a list, whose line takes one or more; the largest number
-abbrev pub row : String → Bool → ℕ → ℕ → Key
-row name list values most = record { name = ascii name; list = list; values = values; most = most }
+-- a keyword's row: its key; its name, padded with blanks to ten letters; how many values a line takes: so many, or one or more, which are joined
+-- to those of the key's other lines and may be runs; the largest number
+abbrev pub row : Key → String → Values → ℕ → Row
+row key name values most = record { 0 = key; 1 = ascii name; 2 = values; 3 = most }
 
--- a key's code is its row's place, from 0
-unfoldable pub table : List Key
-table =
-    row "road      " false 5 number
-    ∷ row "cells     " true 0 number
-    ∷ row "upstream  " true 0 number
-    ∷ row "downstream" true 0 number
-    ∷ row "pair      " false 2 number
-    ∷ row "horizon   " false 1 number
-    ∷ row "word      " true 0 byte
-    ∷ row "mode      " false 1 byte
-    ∷ row "estimates " false 3 number
-    ∷ row "bits      " false 3 wide
-    ∷ row "forecast  " false 0 number
-    ∷ row "settle    " false 0 number
-    ∷ row "read      " false 0 number
-    ∷ row "fit       " false 0 number
-    ∷ row "rows      " false 0 number
-    ∷ row "candidate " false 0 number
-    ∷ row "count     " false 1 number
-    ∷ row "end       " false 0 number
-    ∷ row "density   " false 2 number
-    ∷ row "flow      " false 2 number
-    ∷ row "speed     " false 2 number
-    ∷ row "station   " false 0 number
-    ∷ row "readlast  " false 0 number
-    ∷ row "nearest   " false 0 number
-    ∷ row "totals    " false 2 wide
-    ∷ row "caps      " true 0 number
-    ∷ []
-
--- what is no key: no name, and no values
-abbrev pub none : Key
-none = row "          " false 0 number
+unfoldable pub key_row : Key → Row
+key_row Road = row Road "road      " (Exactly 5) number
+key_row Cells = row Cells "cells     " Many number
+key_row Upstream = row Upstream "upstream  " Many number
+key_row Downstream = row Downstream "downstream" Many number
+key_row Pair = row Pair "pair      " (Exactly 2) number
+key_row Horizon = row Horizon "horizon   " (Exactly 1) number
+key_row Word = row Word "word      " Many byte
+key_row Mode = row Mode "mode      " (Exactly 1) byte
+key_row Estimates = row Estimates "estimates " (Exactly 3) number
+key_row Bits = row Bits "bits      " (Exactly 3) wide
+key_row Forecast = row Forecast "forecast  " (Exactly 0) number
+key_row Settle = row Settle "settle    " (Exactly 0) number
+key_row Read = row Read "read      " (Exactly 0) number
+key_row Fit = row Fit "fit       " (Exactly 0) number
+key_row Rows = row Rows "rows      " (Exactly 0) number
+key_row Candidate = row Candidate "candidate " (Exactly 0) number
+key_row Count = row Count "count     " (Exactly 1) number
+key_row End = row End "end       " (Exactly 0) number
+key_row Density = row Density "density   " (Exactly 2) number
+key_row Flow = row Flow "flow      " (Exactly 2) number
+key_row Speed = row Speed "speed     " (Exactly 2) number
+key_row Station = row Station "station   " (Exactly 0) number
+key_row Readlast = row Readlast "readlast  " (Exactly 0) number
+key_row Nearest = row Nearest "nearest   " (Exactly 0) number
+key_row Totals = row Totals "totals    " (Exactly 2) wide
+key_row Caps = row Caps "caps      " Many number
 
 -- what there is to say of a key
-unfoldable pub key_row : ℕ → Key
-key_row code = get_or table code none
+abbrev pub keyword : Key → List ℕ
+keyword key = (key_row key).1
 
--- how many keywords there are: the table's rows (`rows_counted`)
-abbrev pub key_count : ℕ
-key_count = 26
+abbrev pub values_of : Key → Values
+values_of key = (key_row key).2
+
+abbrev pub most_of : Key → ℕ
+most_of key = (key_row key).3
+
+-- the keys, in the order of their rows
+unfoldable pub keys : List Key
+keys =
+    Road ∷ Cells ∷ Upstream ∷ Downstream ∷ Pair ∷ Horizon ∷ Word ∷ Mode ∷ Estimates ∷ Bits ∷ Forecast ∷ Settle ∷ Read ∷ Fit ∷ Rows ∷ Candidate ∷ Count ∷ End
+    ∷ Density ∷ Flow ∷ Speed ∷ Station ∷ Readlast ∷ Nearest ∷ Totals ∷ Caps ∷ []
 
 -- whether a word, padded with blanks, is the name
 unfoldable pub is_name : List ℕ → List ℕ → Bool
@@ -70,31 +75,11 @@ is_name (b ∷ bs) [] = false
 is_name [] (c ∷ cs) = both (eqb 32 c) (is_name [] cs)
 is_name (b ∷ bs) (c ∷ cs) = both (eqb b c) (is_name bs cs)
 
--- the place of the first row that has a word for its name; the number of rows where none has
-unfoldable pub place_in : List Key → List ℕ → ℕ
-place_in [] word = 0
-place_in (k ∷ ks) word = pick (is_name word k.name) 0 (suc (place_in ks word))
+-- the first key that has a word for its name
+unfoldable pub named_in : List Key → List ℕ → Option Key
+named_in [] word = None
+named_in (k ∷ ks) word = pick (is_name word (keyword k)) (Some k) (named_in ks word)
 
 -- a word's key
-unfoldable pub key_code : List ℕ → ℕ
-key_code word = place_in table word
-
--- the keys whose meaning is no row's: a word's values are letters too, and nothing stands after an end
-abbrev pub word_key : ℕ
-word_key = 6
-
-abbrev pub end_key : ℕ
-end_key = 17
-
--- the key of a word that is no keyword
-abbrev pub unknown_key : ℕ
-unknown_key = key_count
-
--- the key of a line without words
-abbrev pub key_none : ℕ
-key_none = key_count + 1
-
--- a line's key: that of its first word
-unfoldable pub key_of : List (List ℕ) → ℕ
-key_of [] = key_none
-key_of (w ∷ ws) = key_code w
+unfoldable pub key_named : List ℕ → Option Key
+key_named word = named_in keys word

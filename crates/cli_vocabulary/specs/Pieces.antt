@@ -1,7 +1,6 @@
 -- Lines and words: a text cut at its marks.
-use Rattle.std.specs.Prelude.{◌≡◌, Bool, List, [], ◌∷◌, ℕ, suc, ◌+◌, ◌≤◌, eqb, length, take, drop}
+use Rattle.std.specs.Prelude.{Bool, List, [], ◌∷◌, ℕ, suc, eqb, take}
 use Rattle.choice.specs.Choice.{pick, or}
-use Rattle.cli_vocabulary.specs.declared.pieces.Part.{Part}
 
 -- the marks: newline ends a line, a blank a word; # starts a comment; ^ stands before a run's count
 abbrev pub newline : ℕ
@@ -28,12 +27,6 @@ cuts mark b = pick (eqb mark blank) (is_blank b) (eqb b mark)
 unfoldable pub before : ℕ → List ℕ → ℕ
 before mark [] = 0
 before mark (b ∷ bs) = pick (cuts mark b) 0 (suc (before mark bs))
-
--- where the piece that starts at a place ends: at the next mark, or with the text, and so in the text
-pub record PieceEnds (text : List ℕ) (from mark end : ℕ) : Type 0 where
-  pub at : end ≡ from + before mark (drop from text)
-  pub after : from ≤ end
-  pub inside : end ≤ length text
 
 -- b put before the first piece, which it starts where there is none
 unfoldable pub grown : ℕ → List (List ℕ) → List (List ℕ)
@@ -66,12 +59,3 @@ words_in part = filled (split blank part)
 -- the words of a line: what stands before its comment, cut at blanks
 abbrev pub words : List ℕ → List (List ℕ)
 words line = words_in (take (before hash line) line)
-
--- how many blanks a text starts with
-unfoldable pub leading : List ℕ → ℕ
-leading [] = 0
-leading (b ∷ bs) = pick (is_blank b) (suc (leading bs)) 0
-
--- where the first word stands; an empty place at the end where there is none
-unfoldable pub first_word : List ℕ → Part
-first_word bs = record { start = leading bs; end = leading bs + before blank (drop (leading bs) bs) }

@@ -1,128 +1,148 @@
-// Keys: the keywords of a scenario, one row each; what no keyword is has a row too.
-ghost use Rattle.std.specs.Prelude.{◌≡◌, ◌<◌, get_or};
-ghost use Rattle.cli_vocabulary.specs.Keys.{key_count, key_row, is_name, key_code};
+// Keys: the keywords of a scenario, one row each.
+ghost use Rattle.std.specs.Prelude.{◌≡◌, ◌==◌, find};
+ghost use Rattle.std.specs.List.{list_all};
+ghost use Rattle.cli_vocabulary.specs.Keys.{key_row, keyword, values_of, most_of, is_name, key_named};
 
-// What a scenario's text says of a key: its keyword in ASCII, padded with blanks to ten letters; whether its lines are joined
-// to a list; how many values a line takes, 0 of a list, whose line takes one or more; the largest number.
-#[derive(Clone, Copy)]
-pub struct Key {
-    pub name: [u8; 10],
-    pub list: bool,
-    pub values: usize,
-    pub most: u64,
+// What a line may begin with.
+#[derive(Clone, Copy, PartialEq, Eq)]
+pub enum Key {
+    Road,
+    Cells,
+    Upstream,
+    Downstream,
+    Pair,
+    Horizon,
+    Word,
+    Mode,
+    Estimates,
+    Bits,
+    Forecast,
+    Settle,
+    Read,
+    Fit,
+    Rows,
+    Candidate,
+    Count,
+    End,
+    Density,
+    Flow,
+    Speed,
+    Station,
+    Readlast,
+    Nearest,
+    Totals,
+    Caps,
 }
 
-// The same in a table's row, in that order.
+// How many keys there are: a new one is a variant, one more here, and a row at the end of the table.
+pub const KEYS: usize = 26;
+
+// How many values a line takes: one or more, joined to those of the key's other lines, or so many and no second line.
 #[derive(Clone, Copy)]
-struct Row([u8; 10], bool, usize, u64);
+pub enum Values {
+    Many,
+    Exactly(usize),
+}
+
+// A key; its keyword in ASCII, padded with blanks to ten letters; how many values a line takes; the largest number.
+#[derive(Clone, Copy)]
+struct Row(Key, [u8; 10], Values, u64);
 
 // The largest number: a code or a mode is one byte, a bit pattern or a total 64 bits, any other number 32 bits.
-const BYTE: u64 = 255;
+const BYTE: u64 = u8::MAX as u64;
 
-const NUMBER: u64 = 4294967295;
+const NUMBER: u64 = u32::MAX as u64;
 
-const WIDE: u64 = 18446744073709551615;
+const WIDE: u64 = u64::MAX;
 
-// How many keywords there are: a new one is one more here, a row at the end of the table, and its code (codes.rt).
-const KEYS: usize = 26;
-
-// A key's code is its row's place. No other keyword starts with `end`: a text cut off within a keyword has no `end`.
+// A key's row stands at its place among the variants. No other keyword starts with `end`: a text cut off within a keyword
+// has no `end`. A name is padded since `Key::named` takes a word with blanks behind it too.
 const TABLE: [Row; KEYS] = [
-    Row(*b"road      ", false, 5, NUMBER),
-    Row(*b"cells     ", true, 0, NUMBER),
-    Row(*b"upstream  ", true, 0, NUMBER),
-    Row(*b"downstream", true, 0, NUMBER),
-    Row(*b"pair      ", false, 2, NUMBER),
-    Row(*b"horizon   ", false, 1, NUMBER),
-    Row(*b"word      ", true, 0, BYTE),
-    Row(*b"mode      ", false, 1, BYTE),
-    Row(*b"estimates ", false, 3, NUMBER),
-    Row(*b"bits      ", false, 3, WIDE),
-    Row(*b"forecast  ", false, 0, NUMBER),
-    Row(*b"settle    ", false, 0, NUMBER),
-    Row(*b"read      ", false, 0, NUMBER),
-    Row(*b"fit       ", false, 0, NUMBER),
-    Row(*b"rows      ", false, 0, NUMBER),
-    Row(*b"candidate ", false, 0, NUMBER),
-    Row(*b"count     ", false, 1, NUMBER),
-    Row(*b"end       ", false, 0, NUMBER),
-    Row(*b"density   ", false, 2, NUMBER),
-    Row(*b"flow      ", false, 2, NUMBER),
-    Row(*b"speed     ", false, 2, NUMBER),
-    Row(*b"station   ", false, 0, NUMBER),
-    Row(*b"readlast  ", false, 0, NUMBER),
-    Row(*b"nearest   ", false, 0, NUMBER),
-    Row(*b"totals    ", false, 2, WIDE),
-    Row(*b"caps      ", true, 0, NUMBER),
+    Row(Key::Road, *b"road      ", Values::Exactly(5), NUMBER),
+    Row(Key::Cells, *b"cells     ", Values::Many, NUMBER),
+    Row(Key::Upstream, *b"upstream  ", Values::Many, NUMBER),
+    Row(Key::Downstream, *b"downstream", Values::Many, NUMBER),
+    Row(Key::Pair, *b"pair      ", Values::Exactly(2), NUMBER),
+    Row(Key::Horizon, *b"horizon   ", Values::Exactly(1), NUMBER),
+    Row(Key::Word, *b"word      ", Values::Many, BYTE),
+    Row(Key::Mode, *b"mode      ", Values::Exactly(1), BYTE),
+    Row(Key::Estimates, *b"estimates ", Values::Exactly(3), NUMBER),
+    Row(Key::Bits, *b"bits      ", Values::Exactly(3), WIDE),
+    Row(Key::Forecast, *b"forecast  ", Values::Exactly(0), NUMBER),
+    Row(Key::Settle, *b"settle    ", Values::Exactly(0), NUMBER),
+    Row(Key::Read, *b"read      ", Values::Exactly(0), NUMBER),
+    Row(Key::Fit, *b"fit       ", Values::Exactly(0), NUMBER),
+    Row(Key::Rows, *b"rows      ", Values::Exactly(0), NUMBER),
+    Row(Key::Candidate, *b"candidate ", Values::Exactly(0), NUMBER),
+    Row(Key::Count, *b"count     ", Values::Exactly(1), NUMBER),
+    Row(Key::End, *b"end       ", Values::Exactly(0), NUMBER),
+    Row(Key::Density, *b"density   ", Values::Exactly(2), NUMBER),
+    Row(Key::Flow, *b"flow      ", Values::Exactly(2), NUMBER),
+    Row(Key::Speed, *b"speed     ", Values::Exactly(2), NUMBER),
+    Row(Key::Station, *b"station   ", Values::Exactly(0), NUMBER),
+    Row(Key::Readlast, *b"readlast  ", Values::Exactly(0), NUMBER),
+    Row(Key::Nearest, *b"nearest   ", Values::Exactly(0), NUMBER),
+    Row(Key::Totals, *b"totals    ", Values::Exactly(2), WIDE),
+    Row(Key::Caps, *b"caps      ", Values::Many, NUMBER),
 ];
 
-// What is no key: no name, and no values.
-const NONE: Key = Key {
-    name: *b"          ",
-    list: false,
-    values: 0,
-    most: NUMBER,
-};
-
-// What a word that is no keyword has for a key, and what a line without words has: the two codes after the keywords'.
-pub const UNKNOWN: u8 = KEYS as u8;
-
-pub const NO_KEY: u8 = UNKNOWN + 1;
-
-// How many codes a line's key may have.
-pub const CODES: usize = KEYS + 2;
-
-// What there is to say of a key; what is no key has a name of blanks and takes no values.
-pub fn key_of(code: u8) -> Key
-    ensures { result ≡ key_row code }
-{
-    let k = code as usize;
-    if KEYS <= k {
-        return NONE;
+impl Key {
+    // The key that a word is the keyword of.
+    pub fn named(word: &[u8]) -> Option<Key>
+        ensures { result ≡ key_named word.now }
+    {
+        let row = row_named(word)?;
+        Some(row.0)
     }
-    let row = TABLE[k];
-    let name = row.0;
-    Key {
-        name,
-        list: row.1,
-        values: row.2,
-        most: row.3,
+
+    // The keyword, padded with blanks to ten letters.
+    pub fn keyword(self) -> [u8; 10]
+        ensures { result ≡ keyword self }
+    {
+        self.row().1
+    }
+
+    // How many values a line takes.
+    pub fn values(self) -> Values
+        ensures { result ≡ values_of self }
+    {
+        self.row().2
+    }
+
+    // The largest number among its values.
+    pub fn most(self) -> u64
+        ensures { result ≡ most_of self }
+    {
+        self.row().3
+    }
+
+    fn row(self) -> Row
+        ensures { result ≡ key_row self }
+    {
+        TABLE[self as usize]
     }
 }
 
-// Internal: a letter of a word, or a blank after its end.
-fn letter_at(word: &[u8], i: usize) -> u8
-    ensures { result ≡ get_or word.now i 32 }
+// Internal: the first row that has a word for its name.
+fn row_named(word: &[u8]) -> Option<Row>
+    ensures { result ≡ find (λ row. is_name word.now row.1) TABLE }
 {
-    if i < word.len() { word[i] } else { 32 }
+    TABLE.iter().copied().find(|row| is_name(word, &row.1))
 }
 
-// Internal: whether a word is the keyword of a key.
-fn is_name(word: &[u8], code: u8) -> bool
-    requires { code < key_count }
-    ensures { result ≡ is_name word.now (key_row code).name }
+// Internal: whether a word, with blanks behind it, is a name.
+fn is_name(word: &[u8], name: &[u8]) -> bool
+    ensures { result ≡ is_name word.now name.now }
 {
-    let name = key_of(code).name;
-    let mut i = 0;
-    while i < 10 {
-        if letter_at(word, i) != name[i] {
-            return false;
-        }
-        i += 1;
+    match name.strip_prefix(word) {
+        Some(rest) => is_padding(rest),
+        None => false,
     }
-    word.len() <= 10
 }
 
-// Internal: a word's key, or UNKNOWN.
-pub fn key_code(word: &[u8]) -> u8
-    ensures { result ≡ key_code word.now }
+// Internal: blanks alone.
+fn is_padding(rest: &[u8]) -> bool
+    ensures { result ≡ list_all (λ b. b == 32) rest.now }
 {
-    let mut code = 0;
-    while code < UNKNOWN {
-        if is_name(word, code) {
-            return code;
-        }
-        code += 1;
-    }
-    UNKNOWN
+    rest.iter().all(|b| *b == b' ')
 }

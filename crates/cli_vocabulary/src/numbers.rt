@@ -1,83 +1,57 @@
 // Numbers: whole and decimal, of digits alone, refused before they could overflow.
-ghost use Rattle.std.specs.Prelude.{◌≡◌, true, ◌+◌, ◌*◌, ltb};
-ghost use Rattle.cli_vocabulary.specs.Numbers.{is_digit, is_number, all_digits, decimal_from, at_most, number_of};
+ghost use Rattle.std.specs.Prelude.{◌≡◌, true, ◌+◌, ◌*◌};
+ghost use Rattle.cli_vocabulary.specs.Numbers.{is_number, all_digits, decimal_from, at_most, number_of};
 
-// A number, and what is wrong with it: 0, nothing; 3, the word is no number; 4, it is too large. Where something is
-// wrong the number is 0.
-#[derive(Clone, Copy)]
-pub struct Number {
-    pub what: u32,
-    pub value: u64,
-}
-
-// Internal: 0 to 9.
-fn is_digit(b: u8) -> bool
-    ensures { result ≡ is_digit b }
-{
-    if 48 <= b { b <= 57 } else { false }
-}
+use super::faults::Fault;
 
 // Internal: digits alone.
 fn all_digits(word: &[u8]) -> bool
     ensures { result ≡ all_digits word.now }
 {
-    let mut i = 0;
-    while i < word.len() {
-        if !is_digit(word[i]) {
-            return false;
-        }
-        i += 1;
-    }
-    true
+    word.iter().all(|b| b.is_ascii_digit())
 }
 
 // Internal: at least one digit, and digits alone.
 fn is_number(word: &[u8]) -> bool
     ensures { result ≡ is_number word.now }
 {
-    if word.len() == 0 {
-        false
-    } else {
-        all_digits(word)
-    }
+    !word.is_empty() && all_digits(word)
 }
 
-// Internal: whether one digit more takes a number past the most, without the product where it would overflow.
-fn is_past(most: u64, value: u64, digit: u64) -> bool
-    ensures { result ≡ ltb most (value * 10 + digit) }
+// Internal: a number with one digit more.
+#[tactic(auto, unfolding(crate::specs::Numbers::at_most))]
+fn with_digit(value: u64, digit: u64, most: u64) -> Result<u64, Fault>
+    ensures { result ≡ at_most most (value * 10 + digit) }
 {
-    if most / 10 < value {
-        true
-    } else {
-        most - value * 10 < digit
+    match value
+        .checked_mul(10)
+        .and_then(|tens| tens.checked_add(digit))
+    {
+        Some(number) if number <= most => Ok(number),
+        _ => Err(Fault::TooLarge),
     }
 }
 
-// Internal: the number that digits write, or that it is more than the most.
-fn decimal(word: &[u8], most: u64) -> Number
+// Internal: the number that digits write.
+fn decimal(word: &[u8], most: u64) -> Result<u64, Fault>
     requires { all_digits word.now ≡ true }
     ensures { result ≡ at_most most (decimal_from 0 word.now) }
 {
-    let mut value: u64 = 0;
-    let mut i = 0;
-    while i < word.len() {
-        let digit = (word[i] - 48) as u64;
-        if is_past(most, value, digit) {
-            return Number { what: 4, value: 0 };
-        }
-        value = value * 10 + digit;
-        i += 1;
+    let mut value = 0;
+    for b in word {
+        value = with_digit(value, u64::from(b - b'0'), most)?;
     }
-    Number { what: 0, value }
+    Ok(value)
 }
 
 // Internal: a word as a number of at most the given one.
-pub fn number_of(word: &[u8], most: u64) -> Number
+#[tactic(auto, unfolding(crate::specs::Numbers::number_of))]
+pub fn number_of(word: &[u8], most: u64) -> Result<u64, Fault>
     ensures { result ≡ number_of most word.now }
 {
     if is_number(word) {
         decimal(word, most)
     } else {
-        Number { what: 3, value: 0 }
+        Err(Fault::NotANumber)
     }
 }

@@ -1,25 +1,18 @@
--- `cli_vocabulary::is_name` meets its contract: the loop keeps `NameCompared`.
-use Rattle.std.proofs.Common.{◌∙◌, sym, ap, List, ℕ, get_or, arith}
-use Rattle.cli_vocabulary.specs.Keys.{key_row}
-use Rattle.cli_vocabulary.proofs.Naming.{differs, turns, ends, name_length}
+-- `cli_vocabulary::is_name` meets its contract: what stands behind the word in the name is blanks.
+use Rattle.std.proofs.Common.{◌∙◌, sym, rules, ap}
+use Rattle.std.proofs.lemmas.Slice.Eq.{strip_prefix_is}
+use Rattle.cli_vocabulary.specs.Keys.{is_name}
+use Rattle.cli_vocabulary.proofs.Naming.{padding, name_starts, name_differs}
 use Rattle.cli_vocabulary.proofs.keys.is_name.Goals as goal
 
-pub returns-then-letter_at-name : goal.returns-then-letter_at-name
-returns-then-letter_at-name c =
-    let name = (key_row c.args.code).name in
-    differs c.args.word.now name c.loop-i.i c.loop-i.invariant.1 (omega (arith, name_length c.args.code c.requires, c.loop-i-test.true))
-    (λ e. c.if-letter_at-name.true (c.letter_at.ensures ∙ e ∙ ap (λ (n : List ℕ). get_or n c.loop-i.i 0) (sym c.loop-i.invariant.0)))
+pub returns-in-Some : goal.returns-in-Some
+returns-in-Some c =
+    let starts = strip_prefix_is (λ a b. search rules) c.args.name.now c.args.word.now c.strip_prefix.result c.strip_prefix.ensures.cases in
+    let at = rw c.in-Some.is at starts in
+    c.is_padding.ensures ∙ padding c.in-Some.rest.now ∙ sym (name_starts c.args.word.now c.in-Some.rest.now) ∙ ap (is_name c.args.word.now) (sym at)
 
-pub loop-i-preserved : goal.loop-i-preserved
-loop-i-preserved c =
-    let name = (key_row c.args.code).name in (
-      c.loop-i.invariant.0,
-      turns c.args.word.now name c.loop-i.i c.loop-i.invariant.1 (omega (arith, name_length c.args.code c.requires, c.loop-i-test.true))
-          (sym c.letter_at.ensures ∙ c.if-letter_at-name.false ∙ ap (λ (n : List ℕ). get_or n c.loop-i.i 0) c.loop-i.invariant.0),
-    )
-
-pub returns : goal.returns
-returns c =
-    let name = (key_row c.args.code).name in
-    let long = name_length c.args.code c.requires in
-    rw long at (ends c.args.word.now name c.loop-i.i c.loop-i.invariant.1 (omega (arith, c.loop-i-test.false)))
+pub returns-in-None : goal.returns-in-None
+returns-in-None c =
+    let starts = strip_prefix_is (λ a b. search rules) c.args.name.now c.args.word.now c.strip_prefix.result c.strip_prefix.ensures.cases in
+    let at = rw c.in-None.is at starts in
+    sym (name_differs c.args.word.now c.args.name.now at)

@@ -1,24 +1,17 @@
 -- `cli_vocabulary::decimal` meets its contract: the loop keeps `Writing`.
-use Rattle.std.proofs.Common.{◌∙◌, sym}
-use borrow.Author.Tests.{ltb-true, ltb-false}
-use Rattle.cli_vocabulary.proofs.Decimal.{begins, digit_low, past, turns, ends}
+use Rattle.std.proofs.lemmas.Result.{err_from_is_err_and}
+use Rattle.cli_vocabulary.proofs.Decimal.{past, turns, ends}
 use Rattle.cli_vocabulary.proofs.numbers.decimal.Goals as goal
 
-pub loop-i-init : goal.loop-i-init
-loop-i-init c = begins c.args.word.now c.args.most c.requires
+pub returns-in_err-value : goal.returns-in_err-value
+returns-in_err-value c =
+    let left = err_from_is_err_and c.from_residual.result c.from_residual.ensures.1 in
+    rw (left.1, left.2) (past c.args.word.now c.args.most c.loop-b.value c.loop-b.b-index c.loop-b.invariant c.loop-b-test.true _ (rw c.from.ensures at c.in_err-value.ensures))
 
-pub overflow_sub-digit : goal.overflow_sub-digit
-overflow_sub-digit c = digit_low c.args.word.now c.args.most c.loop-i.value c.loop-i.i c.loop-i.invariant c.loop-i-test.true
-
-pub returns-then-is_past : goal.returns-then-is_past
-returns-then-is_past c =
-    past c.args.word.now c.args.most c.loop-i.value c.loop-i.i c.loop-i.invariant c.loop-i-test.true
-    (ltb-true _ _ (sym c.is_past.ensures ∙ c.if-is_past.true))
-
-pub loop-i-preserved : goal.loop-i-preserved
-loop-i-preserved c =
-    turns c.args.word.now c.args.most c.loop-i.value c.loop-i.i c.loop-i.invariant c.loop-i-test.true
-    (ltb-false _ _ (sym c.is_past.ensures ∙ c.if-is_past.false))
+pub loop-b-preserved : goal.loop-b-preserved
+loop-b-preserved c =
+    turns c.args.word.now c.args.most c.loop-b.value c.loop-b.b-index c.loop-b.invariant c.loop-b-test.true c.in_ok-value.value
+    (rw c.from.ensures at c.in_ok-value.ensures)
 
 pub returns : goal.returns
-returns c = ends c.args.word.now c.args.most c.loop-i.value c.loop-i.i c.loop-i.invariant c.loop-i-test.false
+returns c = ends c.args.word.now c.args.most c.loop-b.value c.loop-b.b-index c.loop-b.invariant c.loop-b-test.false
