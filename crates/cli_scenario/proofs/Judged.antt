@@ -1,41 +1,40 @@
--- The judgement by its tests: of a line's values, of a line, of its place, and of a text.
-use mathlib.Core.Path.{◌≡◌, refl, ap, sym, ◌∙◌}
-use mathlib.Core.Bool.{Bool, true, false}
+-- The judgement of a text by what its lines come to.
+use mathlib.Core.Path.{◌≡◌, refl, ap}
+use mathlib.Core.Bool.{true, false}
 use mathlib.Core.List.{List, [], ◌∷◌}
-use Prim.Native.Nat.{ℕ, ◌+◌}
-use native.Mathlib.Numerals.{add-one}
-use lib.ListN.{length, get_or, set}
-use borrow.Author.Tests.{ne_eqb}
-use Rattle.choice.specs.Choice.{pick}
-use Rattle.cli_vocabulary.specs.Pieces.{words, lines}
-use Rattle.cli_vocabulary.specs.Keys.{key_of, end_key}
-use Rattle.cli_scenario.specs.Judging.{wrong_value, wrong_number, wrong_values, wrong_line, wrong_after, judged_line, judged_lines, at_start, verdict_of, verdict}
+use borrow.Author.Tests.{eqb-true, eqb-false}
+use native.Mathlib.Omega.{arith}
+use Prim.Native.Nat.{ℕ, suc}
+use lib.Dec.{eqb}
+use lib.ListN.{length}
+use Rattle.std.specs.Prelude.{Result, Ok, Err}
+use Rattle.cli_vocabulary.specs.Pieces.{lines, words, filled, filled_piece}
+use Rattle.cli_vocabulary.specs.Keys.{key_of}
+use Rattle.cli_scenario.specs.Judging.{Judged, wrong_after, line_judged, judged_line, judged_lines, with_key, go_on, at_start, outcome, verdict}
 use Rattle.cli_scenario.specs.declared.judging.Progress.{Progress}
-
--- the values of a line, by whether their number is wrong
-pub values_wrong : (key : ℕ) (ws : List (List ℕ)) (n : ℕ) → n ≡ length ws → (b : Bool) → b ≡ wrong_number key n
-    → pick b 5 (wrong_value key ws) ≡ wrong_values key ws
-values_wrong key ws n m b o = rw (← m, ← o) refl
-
--- one line on
-pub judged_is : (p : Progress) (line : List ℕ) (own key what : ℕ) → own ≡ wrong_line line → key ≡ key_of (words line)
-    → what ≡ wrong_after (get_or p.seen end_key false) (get_or p.seen key false) key own
-    → ◌≡◌ {A = Progress} (record { what = what; line = p.line + 1; key = key; seen = set p.seen key true }) (judged_line p line)
-unfolding judged_line
-judged_is p line own key what o k e = rw (e, add-one p.line, o, k) refl
-
--- a line's number is one more than that of the line before
-pub judged_line_lem : (p q : Progress) (line : List ℕ) → q ≡ judged_line p line → q.line ≡ p.line + 1
-unfolding judged_line
-judged_line_lem p q line e = ap (λ (x : Progress). x.line) e ∙ sym (add-one p.line)
-
--- the judgement stops at the first line that is wrong
-pub judged_stop : (p : Progress) (ls : List (List ℕ)) → (p.what ≡ 0 → ⊥) → judged_lines p ls ≡ p
-unfolding judged_lines
-judged_stop p [] n = refl
-judged_stop p (l ∷ ls) n = rw (ne_eqb p.what 0 n) refl
+use Rattle.cli_scenario.specs.declared.judging.Verdict.{Verdict}
 
 -- what a text's lines come to is its judgement
-pub verdict_is : (text : List ℕ) (p : Progress) → (length text ≡ 0 → ⊥) → p ≡ judged_lines at_start (lines text) → verdict_of p ≡ verdict text
+pub verdict_is : (text : List ℕ) (p : Result Progress Verdict) → eqb (length text) 0 ≡ false → p ≡ judged_lines at_start (lines text) → go_on p outcome ≡ verdict text
 unfolding verdict
-verdict_is text p n e = rw (ne_eqb (length text) 0 n, ← e) refl
+verdict_is text p n e = rw n (ap (λ (q : Result Progress Verdict). go_on q outcome) e)
+
+-- a good line's number is one more than that of the line before
+pub next_line : (p q : Progress) (line : List ℕ) → Ok q ≡ judged_line p line → q.line ≡ suc p.line
+next_line p q line e = by_own (wrong_after p.seen line) e
+  where
+    by_own : (own : Judged) → Ok q ≡ line_judged own (suc p.line) p.seen (key_of (words line)) → q.line ≡ suc p.line
+    by_own (Ok x) f =
+        let good : q ≡ record { line = suc p.line; seen = with_key p.seen (key_of (words line)) } = cc in ap (λ (r : Progress). r.line) good
+    by_own (Err v) f = absurd cc
+
+-- one piece: empty, or a word
+pub none_here : (w : List ℕ) → eqb (length w) 0 ≡ true → filled_piece w ≡ []
+unfolding filled
+none_here [] z = refl
+none_here (b ∷ bs) z = absurd (omega (arith, eqb-true (suc (length bs)) 0 z))
+
+pub word_here : (w : List ℕ) → eqb (length w) 0 ≡ false → filled_piece w ≡ w ∷ []
+unfolding filled
+word_here [] n = absurd (eqb-false 0 0 n refl)
+word_here (b ∷ bs) n = refl

@@ -1,8 +1,4 @@
--- What the proofs of the reader share: searches, keywords, numbers and values; pieces and their cuts, a line by its head,
--- lists stored in a row, and the judgement.
-pub mod Cutting
-pub mod Headed
-pub mod Storing
-pub mod Folds
+-- How many lines a text may have, the judgement, and lists stored in a row.
+pub mod Counting
 pub mod Judged
-pub mod Loops
+pub mod Storing

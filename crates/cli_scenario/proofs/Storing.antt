@@ -1,14 +1,17 @@
 -- Values stored in a row, midway: whatever stores the rest from here has stored the whole.
 use mathlib.Core.Path.{◌≡◌, refl, ap, sym, ◌∙◌}
 use mathlib.Core.List.{List, [], ◌∷◌, ◌++◌}
-use Prim.Native.Nat.{ℕ, suc, ◌+◌, ◌≤◌, ◌<◌}
+use Prim.Native.Nat.{ℕ, zero, suc, ◌+◌, ◌-◌, ◌≤◌, ◌<◌, min}
 use native.Mathlib.Nat.{min-eq_left}
 use lib.Dec.{leb}
 use borrow.Author.Tests.{leb-true, leb-false}
 use mathlib.Core.Bool.{Bool, true, false}
 use native.Mathlib.Omega.{arith}
-use lib.ListN.{length, set, length-set, length-append}
-use lib.Seq.{set_out}
+use lib.ListN.{length, take, drop, replicate, set, length-set, length-append, length-replicate}
+use lib.Seq.{set_out, take-suc-set}
+use Rattle.std.proofs.Common.{append_assoc, add-zero}
+use Rattle.std.proofs.lemmas.List.{drop-set-lt, take-append-drop}
+use mathlib.Core.List.{append-nil}
 use Rattle.cli_scenario.specs.Values.{overlaid, Stored}
 
 pub length_overlaid : (out : List ℕ) (k : ℕ) (vs : List ℕ) → length (overlaid out k vs) ≡ length out
@@ -57,14 +60,42 @@ module _ {out next : List ℕ} {k r : ℕ} {vs : List ℕ} (s : Stored out next 
               overlaid_out (overlaid out k vs) r ws (omega (arith, length_overlaid out k vs, s.filled))
               ∙ sym (overlaid_out (overlaid out k vs) (k + length vs) ws (omega (arith, length_overlaid out k vs)))
 
--- nothing stored, and one value
+-- nothing stored
 pub stored_nothing : (out : List ℕ) (k : ℕ) → k ≤ length out → Stored out out k [] k
 unfolding overlaid
 stored_nothing out k h = record { list = refl; filled = omega arith }
 
-pub stored_one : (out : List ℕ) (k v : ℕ) → k < length out → Stored out (set out k v) k (v ∷ []) (k + 1)
+-- one value a number of times, as far as the list goes
+overlaid_run : (out : List ℕ) (k n v : ℕ) → k + n ≤ length out → overlaid out k (replicate n v) ≡ take k out ++ replicate n v ++ drop (k + n) out
 unfolding overlaid
-stored_one out k v h = record { list = refl; filled = omega arith }
+overlaid_run out k zero v h = rw (append-nil (take k out), add-zero k) (sym (take-append-drop k out))
+overlaid_run out k (suc n) v h =
+    let inside : k < length out = omega arith in
+    let room : suc k + n ≤ length (set out k v) = omega (arith, length-set out k v) in
+    let next : suc k + n ≡ k + suc n = omega arith in
+    overlaid_run (set out k v) (suc k) n v room
+    ∙ rw (next, take-suc-set out k v inside, drop-set-lt (k + suc n) out k v (omega arith), append_assoc (take k out) (v ∷ []) (replicate n v)) refl
+
+-- no more of them than there is room for
+overlaid_clip : (out : List ℕ) (k n m v : ℕ) → m ≤ n → length out ≤ k + m → overlaid out k (replicate n v) ≡ overlaid out k (replicate m v)
+unfolding overlaid
+overlaid_clip out k n zero v h full = overlaid_out out k (replicate n v) (omega arith)
+overlaid_clip out k zero (suc m) v h full = absurd (omega arith)
+overlaid_clip out k (suc n) (suc m) v h full = overlaid_clip (set out k v) (suc k) n m v (omega arith) (omega (arith, length-set out k v))
+
+overlaid_room : (out : List ℕ) (k n m v : ℕ) → m ≡ min (length out - k) n → overlaid out k (replicate n v) ≡ overlaid out k (replicate m v)
+overlaid_room out k n m v e = by_room (leb n (length out - k)) refl
+  where
+    by_room : (t : Bool) → leb n (length out - k) ≡ t → overlaid out k (replicate n v) ≡ overlaid out k (replicate m v)
+    by_room true l = ap (λ (i : ℕ). overlaid out k (replicate i v)) (omega (arith, leb-true n (length out - k) l))
+    by_room false l = overlaid_clip out k n m v (omega arith) (omega (arith, leb-false n (length out - k) l))
+
+pub stored_run : (out next : List ℕ) (k n m v : ℕ) → k ≤ length out → m ≡ min (length out - k) n
+    → next ≡ take k out ++ replicate m v ++ drop (k + m) out → Stored out next k (replicate n v) (k + m)
+stored_run out next k n m v h e w = record {
+  list = w ∙ sym (overlaid_run out k m v (omega arith)) ∙ sym (overlaid_room out k n m v e);
+  filled = omega (arith, length-replicate n v);
+}
 
 -- what is left to store from place at on, for the whole from place k on
 pub record ValuesStored (rest whole : List ℕ) (k : ℕ) (start out : List ℕ) (at : ℕ) : Type 0 where
@@ -85,7 +116,3 @@ module _ {rest whole start out : List ℕ} {k at : ℕ} (now : ValuesStored rest
 
   pub ends : rest ≡ [] → Stored start out k whole at
   ends e = now.completes out at (rw e (stored_nothing out at now.room))
-
-  -- a full list takes nothing more
-  pub stops : length out ≤ at → Stored start out k whole at
-  stops h = now.completes out at (record { list = sym (overlaid_out out at rest h); filled = omega (arith, now.room) })

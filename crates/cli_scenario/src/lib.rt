@@ -6,6 +6,7 @@ mod finding;
 mod judging;
 mod listing;
 
+pub use cli_vocabulary::{Fault, Key};
 pub use finding::line_of;
 pub use judging::{Verdict, judge, wrong_word};
 pub use listing::values;

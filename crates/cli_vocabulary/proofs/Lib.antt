@@ -1,4 +1,5 @@
--- The marks of a text, and decimal numbers.
+-- The pieces of a text, numbers, the table of keys, and keywords.
 pub mod Marks
 pub mod Decimal
+pub mod KeyTable
 pub mod Naming

@@ -1,6 +1,7 @@
 -- Keys: the keywords of a scenario, one row each: key, name, how many values, how large they may be.
 use Rattle.std.specs.Prelude.{Bool, true, false, List, [], ◌∷◌, ℕ, Option, Some, None, eqb}
 use Prim.Native.String.{String}
+use denote.Enum.Declared.{tag_of}
 use Rattle.choice.specs.Choice.{pick, both}
 use Rattle.cli_vocabulary.specs.Ascii.{ascii}
 use Rattle.cli_vocabulary.specs.declared.keys.Key.{Key}
@@ -8,6 +9,7 @@ use Rattle.cli_vocabulary.specs.declared.keys.Key.TheVariants.{Road, Cells, Upst
 use Rattle.cli_vocabulary.specs.declared.keys.Values.{Values}
 use Rattle.cli_vocabulary.specs.declared.keys.Values.TheVariants.{Many, Exactly}
 use Rattle.cli_vocabulary.specs.declared.keys.Row.{Row}
+use Rattle.cli_vocabulary.specs.contracts.keys.Key.{the_type}
 
 -- the largest number: a code or a mode is one byte, a bit pattern or a total 64 bits, any other number 32 bits
 abbrev pub byte : ℕ
@@ -68,6 +70,19 @@ keys =
     Road ∷ Cells ∷ Upstream ∷ Downstream ∷ Pair ∷ Horizon ∷ Word ∷ Mode ∷ Estimates ∷ Bits ∷ Forecast ∷ Settle ∷ Read ∷ Fit ∷ Rows ∷ Candidate ∷ Count ∷ End
     ∷ Density ∷ Flow ∷ Speed ∷ Station ∷ Readlast ∷ Nearest ∷ Totals ∷ Caps ∷ []
 
+-- how many keys there are (`rows_counted`)
+abbrev pub key_count : ℕ
+key_count = 26
+
+-- a key's place among them, from 0
+abbrev pub place : Key → ℕ
+place key = tag_of the_type key
+
+-- whether what may be a key is this one
+abbrev pub is_key : Key → Option Key → Bool
+is_key key None = false
+is_key key (Some other) = eqb (place other) (place key)
+
 -- whether a word, padded with blanks, is the name
 unfoldable pub is_name : List ℕ → List ℕ → Bool
 is_name [] [] = true
@@ -83,3 +98,8 @@ named_in (k ∷ ks) word = pick (is_name word (keyword k)) (Some k) (named_in ks
 -- a word's key
 unfoldable pub key_named : List ℕ → Option Key
 key_named word = named_in keys word
+
+-- a line's key: that of its first word, if any
+abbrev pub key_of : List (List ℕ) → Option Key
+key_of [] = None
+key_of (w ∷ ws) = key_named w

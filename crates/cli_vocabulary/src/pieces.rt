@@ -105,8 +105,8 @@ impl<'a> Iterator for Lines<'a> {
     }
 }
 
-// The words of a part of a line that are still to come.
-#[derive(Drop)]
+// The words of a part of a line that are still to come; copied where they are counted before they are read.
+#[derive(Clone, Copy)]
 pub struct Words<'a> {
     pub rest: &'a [u8],
 }

@@ -1,33 +1,36 @@
--- `cli_scenario::judge` meets its contract: the loop keeps `Faultless`.
-use Rattle.std.proofs.Common.{◌∙◌, refl, length}
-use borrow.Author.Tests.{eq-eqb}
-use Rattle.cli_scenario.specs.Judging.{at_start, verdict}
-use Rattle.cli_scenario.proofs.Judged.{verdict_is}
-use Rattle.cli_scenario.proofs.Loops.{judge_begins, judge_found, judge_turns, judge_ends}
+-- `cli_scenario::judge` meets its contract: the first line that is wrong, or what all lines come to.
+use Rattle.std.proofs.Common.{◌∙◌, sym, refl, arith, ap, length}
+use Rattle.std.proofs.lemmas.Result.{err_from_is_err_and}
+use Rattle.cli_scenario.specs.Judging.{judged_lines, verdict}
+use Rattle.cli_scenario.proofs.Counting.{lines_few}
+use Rattle.cli_scenario.proofs.Judged.{verdict_is, next_line}
 use Rattle.cli_scenario.proofs.judging.judge.Goals as goal
 
-pub returns-then-text-eq0 : goal.returns-then-text-eq0
+pub returns-then-is_empty : goal.returns-then-is_empty
 unfolding verdict
-returns-then-text-eq0 c = rw (eq-eqb (length c.args.text.now) 0 c.if-text-eq0.true) refl
+returns-then-is_empty c = rw (sym c.is_empty.ensures ∙ c.if-is_empty.true) refl
 
-pub loop-at-init : goal.loop-at-init
-unfolding at_start
-loop-at-init c = judge_begins c.args.text.now
+pub loop-line-init : goal.loop-line-init
+loop-line-init c =
+    rw (c.into_iter-line-iterator.ensures.into_iter_gives, c.of-line-items.ensures) (omega (arith, lines_few c.args.text.now), refl)
 
-pub returns-then-p-ne0 : goal.returns-then-p-ne0
-returns-then-p-ne0 c =
-    c.outcome.ensures
-    ∙ verdict_is c.args.text.now c.judge_line-p.result c.if-text-eq0.false
-    (judge_found c.args.text.now c.loop-at.at c.piece_end-end.result c.loop-at-test.true c.piece_end-end.ensures
-    c.loop-at.p c.judge_line-p.result c.judge_line-p.ensures c.loop-at.invariant c.if-p-ne0.true)
+pub returns-in_err-p : goal.returns-in_err-p
+unfolding judged_lines
+returns-in_err-p c =
+    let left = err_from_is_err_and c.from_residual.result c.from_residual.ensures.1 in
+    let wrong = rw (c.in-Some.ensures.steps, sym c.in_err-p.ensures) at c.loop-line.invariant.1 in
+    rw (left.1, left.2) (verdict_is c.args.text.now _ (sym c.is_empty.ensures ∙ c.if-is_empty.false) wrong)
 
-pub loop-at-preserved : goal.loop-at-preserved
-loop-at-preserved c =
-    judge_turns c.args.text.now c.loop-at.at c.piece_end-end.result c.loop-at-test.true c.piece_end-end.ensures
-    c.loop-at.p c.judge_line-p.result c.judge_line-p.ensures c.loop-at.invariant c.if-p-ne0.false
+pub loop-line-preserved : goal.loop-line-preserved
+unfolding judged_lines
+loop-line-preserved c =
+    let on = next_line c.loop-line.p c.in_ok-p.p c.in-Some.line.now c.in_ok-p.ensures in (
+      omega (arith, on, ap length c.in-Some.ensures.steps),
+      rw (c.in-Some.ensures.steps, sym c.in_ok-p.ensures) at c.loop-line.invariant.1,
+    )
 
 pub returns : goal.returns
+unfolding judged_lines
 returns c =
-    c.outcome-2.ensures
-    ∙ verdict_is c.args.text.now c.loop-at.p c.if-text-eq0.false
-    (judge_ends c.args.text.now c.loop-at.at c.loop-at-test.false c.loop-at.p c.loop-at.invariant)
+    let all = rw c.in-None.ensures.steps.0 at c.loop-line.invariant.1 in
+    c.outcome.ensures ∙ verdict_is c.args.text.now _ (sym c.is_empty.ensures ∙ c.if-is_empty.false) all

@@ -1,10 +1,10 @@
--- The judgement, midway.
-use Rattle.std.proofs.Common.{◌-◌, length}
-use Rattle.cli_scenario.proofs.Loops.{Faultless}
+-- Nothing is wrong with the lines before: the judgement goes on from what they come to.
+use Rattle.std.proofs.Common.{◌≡◌, ◌≤◌, ◌+◌, length}
+use Rattle.cli_vocabulary.specs.Pieces.{lines}
+use Rattle.cli_scenario.specs.Judging.{judged_lines, at_start}
 use Rattle.cli_scenario.proofs.judging.judge.Given as goal
 
-abbrev pub invariant-loop-at : goal.invariant-loop-at
-invariant-loop-at l = Faultless l.text l.p l.at
-
-abbrev pub decreases-loop-at : goal.decreases-loop-at
-decreases-loop-at l = length l.text - l.at
+abbrev pub invariant-loop-line : goal.invariant-loop-line
+invariant-loop-line l =
+    (l.p.line + length (lines l.line-iterator.rest.now) ≤ length l.text)
+    × (judged_lines l.p (lines l.line-iterator.rest.now) ≡ judged_lines at_start (lines l.text))

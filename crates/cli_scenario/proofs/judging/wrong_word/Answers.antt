@@ -1,9 +1,21 @@
 -- `cli_scenario::wrong_word` meets its contract: nothing is wrong with an empty piece, with a word what is wrong with its item.
-use Rattle.cli_scenario.proofs.Folds.{none_wrong, word_wrong}
+use Rattle.std.proofs.Common.{◌∙◌, sym, refl}
+use Rattle.std.proofs.lemmas.Result.{err_from_is_err_and}
+use Rattle.cli_scenario.specs.Judging.{wrong_value}
+use Rattle.cli_scenario.proofs.Judged.{none_here, word_here}
 use Rattle.cli_scenario.proofs.judging.wrong_word.Goals as goal
 
-pub returns-then-word-eq0 : goal.returns-then-word-eq0
-returns-then-word-eq0 c = none_wrong c.args.key c.args.word.now c.if-word-eq0.true
+pub returns-in_err-item_of : goal.returns-in_err-item_of
+unfolding wrong_value
+returns-in_err-item_of c =
+    let left = err_from_is_err_and c.from_residual.result c.from_residual.ensures.1 in
+    rw (left.1, left.2, word_here c.args.word.now (sym c.is_empty.ensures ∙ c.if-not-is_empty.true), sym c.in_err-item_of.ensures) refl
 
-pub returns : goal.returns
-returns c = word_wrong c.args.key c.args.word.now c.item_of.result c.item_of.ensures c.if-word-eq0.false
+pub returns-in_ok-item_of : goal.returns-in_ok-item_of
+unfolding wrong_value
+returns-in_ok-item_of c =
+    rw (word_here c.args.word.now (sym c.is_empty.ensures ∙ c.if-not-is_empty.true), sym c.in_ok-item_of.ensures) refl
+
+pub returns-else-not-is_empty : goal.returns-else-not-is_empty
+unfolding wrong_value
+returns-else-not-is_empty c = rw (none_here c.args.word.now (sym c.is_empty.ensures ∙ c.if-not-is_empty.false)) refl

@@ -1,0 +1,7 @@
+-- `cli_scenario::wrong_values` meets its contract: the words are few enough to count.
+use Rattle.std.proofs.Common.{inl, arith}
+use Rattle.cli_scenario.proofs.Counting.{words_few}
+use Rattle.cli_scenario.proofs.judging.wrong_values.Goals as goal
+
+pub count-requires-clause-fits : goal.count-requires-clause-fits
+count-requires-clause-fits c = inl (omega (arith, words_few c.args.words.rest.now))
