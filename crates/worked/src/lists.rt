@@ -1,5 +1,5 @@
-// Lists of one value, as long as the ceilings and one beyond.
-ghost use Rattle.std.specs.Prelude.{◌≡◌, ◌+◌, length};
+// Lists of one value, as long as the ceilings and one beyond, and so much of a list as is lent.
+ghost use Rattle.std.specs.Prelude.{◌≡◌, ◌+◌, length, min};
 ghost use Rattle.road.specs.Ceilings.{cells_ceiling, horizon_ceiling};
 
 use road::Road;
@@ -36,4 +36,12 @@ pub fn caps(cap: u32) -> [u32; FACES]
     ensures { cells_ceiling + 2 ≡ length result }
 {
     [cap; FACES]
+}
+
+// So much of a list, or all of it.
+pub fn first<T>(xs: &mut [T], n: usize) -> &mut [T]
+    ensures { length result.now ≡ min n (length xs.old) }
+{
+    let k = n.min(xs.len());
+    &mut xs[..k]
 }

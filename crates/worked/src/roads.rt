@@ -1,93 +1,145 @@
-// The roads of the worked cases, by name: a table of cases that holds numbers alone is checked quickly.
+// The roads of the worked cases.
 use road::Road;
 
 // Road A of the document.
-pub const A: u8 = 0;
+pub const A: Road = Road {
+    divisor: 5,
+    free: 4,
+    wave: 1,
+    jam: 1000,
+    critical: 200,
+};
 
 // Road A with one of its numbers changed, so that it is refused.
-pub const D_0: u8 = 1;
+pub const D_0: Road = Road { divisor: 0, ..A };
 
-pub const P_6: u8 = 2;
+pub const P_6: Road = Road { free: 6, ..A };
 
-pub const C_1000: u8 = 3;
+pub const C_1000: Road = Road {
+    critical: 1000,
+    ..A
+};
 
-pub const C_201: u8 = 4;
+pub const C_201: Road = Road { critical: 201, ..A };
 
 // Road A with two of its numbers changed: the first of them refuses it.
-pub const D_0_J_1: u8 = 5;
+pub const D_0_J_1: Road = Road {
+    divisor: 0,
+    jam: 1,
+    ..A
+};
 
 // The road with D and J at their ceilings, where every speed is a whole cell a step, and one beyond each.
-pub const WIDEST: u8 = 6;
+pub const WIDEST: Road = Road {
+    divisor: 4096,
+    free: 4096,
+    wave: 4096,
+    jam: 1_000_000,
+    critical: 500_000,
+};
 
-pub const D_4097: u8 = 7;
+pub const D_4097: Road = Road {
+    divisor: 4097,
+    ..WIDEST
+};
 
-pub const J_1000001: u8 = 8;
+pub const J_1000001: Road = Road {
+    jam: 1_000_001,
+    ..WIDEST
+};
 
 // The road with the smallest numbers.
-pub const NARROWEST: u8 = 9;
+pub const NARROWEST: Road = Road {
+    divisor: 1,
+    free: 1,
+    wave: 1,
+    jam: 2,
+    critical: 1,
+};
 
 // A road with another wave speed than road A.
-pub const OTHER_WAVE: u8 = 10;
+pub const OTHER_WAVE: Road = Road {
+    divisor: 5,
+    free: 2,
+    wave: 3,
+    jam: 1000,
+    critical: 600,
+};
 
 // A road where a speed just below p/D is p once it is multiplied by D.
-pub const THIRDS: u8 = 11;
+pub const THIRDS: Road = Road {
+    divisor: 3,
+    free: 1,
+    wave: 1,
+    jam: 2,
+    critical: 1,
+};
 
 // Roads where a free cell sends half of its units, or a quarter of them.
-pub const HALVES: u8 = 12;
+pub const HALVES: Road = Road {
+    divisor: 2,
+    free: 1,
+    wave: 1,
+    jam: 12,
+    critical: 6,
+};
 
-pub const ONE_HALF: u8 = 13;
+pub const ONE_HALF: Road = Road {
+    divisor: 2,
+    free: 1,
+    wave: 1,
+    jam: 2,
+    critical: 1,
+};
 
-pub const QUARTERS: u8 = 14;
+pub const QUARTERS: Road = Road {
+    divisor: 4,
+    free: 1,
+    wave: 1,
+    jam: 4,
+    critical: 2,
+};
 
 // A road with an odd D whose half, over D in parts of 2^32, has to be worked out: 2^31 is too much.
-pub const D_2177: u8 = 15;
+pub const D_2177: Road = Road {
+    divisor: 2177,
+    free: 13,
+    wave: 2177,
+    jam: 998_640,
+    critical: 992_712,
+};
 
 // Roads whose waves are faster than free traffic, with few units in a cell.
-pub const J_9: u8 = 16;
+pub const J_9: Road = Road {
+    divisor: 2,
+    free: 1,
+    wave: 2,
+    jam: 9,
+    critical: 6,
+};
 
-pub const J_5: u8 = 17;
+pub const J_5: Road = Road {
+    divisor: 5,
+    free: 2,
+    wave: 3,
+    jam: 5,
+    critical: 3,
+};
 
 // The road with D and J at their ceilings and the least speeds.
-pub const SLOWEST: u8 = 18;
+pub const SLOWEST: Road = Road {
+    divisor: 4096,
+    free: 1,
+    wave: 1,
+    jam: 1_000_000,
+    critical: 500_000,
+};
 
-// The road of five largest numbers, and of any other name.
-pub const LARGEST: u8 = 19;
-
-// A road from its five numbers: D, p, q, J, C.
-fn of(divisor: u32, free: u32, wave: u32, jam: u32, critical: u32) -> Road {
-    Road {
-        divisor,
-        free,
-        wave,
-        jam,
-        critical,
-    }
-}
-
-const MOST: u32 = 4_294_967_295;
-
-// The road of a name.
-pub fn road(name: u8) -> Road {
-    match name {
-        A => of(5, 4, 1, 1000, 200),
-        D_0 => of(0, 4, 1, 1000, 200),
-        P_6 => of(5, 6, 1, 1000, 200),
-        C_1000 => of(5, 4, 1, 1000, 1000),
-        C_201 => of(5, 4, 1, 1000, 201),
-        D_0_J_1 => of(0, 4, 1, 1, 200),
-        WIDEST => of(4096, 4096, 4096, 1_000_000, 500_000),
-        D_4097 => of(4097, 4096, 4096, 1_000_000, 500_000),
-        J_1000001 => of(4096, 4096, 4096, 1_000_001, 500_000),
-        NARROWEST => of(1, 1, 1, 2, 1),
-        OTHER_WAVE => of(5, 2, 3, 1000, 600),
-        THIRDS => of(3, 1, 1, 2, 1),
-        HALVES => of(2, 1, 1, 12, 6),
-        ONE_HALF => of(2, 1, 1, 2, 1),
-        QUARTERS => of(4, 1, 1, 4, 2),
-        D_2177 => of(2177, 13, 2177, 998_640, 992_712),
-        J_9 => of(2, 1, 2, 9, 6),
-        J_5 => of(5, 2, 3, 5, 3),
-        SLOWEST => of(4096, 1, 1, 1_000_000, 500_000),
-        _ => of(MOST, MOST, MOST, MOST, MOST),
-    }
-}
+// The road of five largest numbers.
+pub const LARGEST: Road = Road {
+    divisor: u32::MAX,
+    free: u32::MAX,
+    wave: u32::MAX,
+    jam: u32::MAX,
+    critical: u32::MAX,
+};

@@ -1,188 +1,244 @@
 // Forecasts: the worked cases, a refusal of each number with its place, and the edges with the refusal one beyond.
-use super::forms;
-use forecast::ForecastAnswer;
-use printing::page;
-use printing::page::Page;
-use road::Road;
-use scheme::{OPEN, Totals};
-use worked::few::{CELLS, EMPTY, NONE, ONE_100};
-use worked::roads::{A, WIDEST};
-use worked::{few, lists, print, roads};
+use super::calls;
+use super::calls::Forecast;
+use printing::Page;
+use scheme::OPEN;
+use worked::roads;
 
-// One forecast, behind its name, and what it left in the output.
-pub fn told(
-    page: &mut Page,
-    road: Road,
-    cells: &[u32],
-    ups: &[u32],
-    downs: &[u32],
-    horizon: u32,
-    caps: &[u32],
-    totals: Totals,
-    out: &mut [u32],
-) {
-    match forecast::forecast(road, cells, ups, downs, horizon, caps, totals, out) {
-        ForecastAnswer::Done(d) => {
-            forms::say(page, forms::TOTALS, d.own.entered, d.own.left);
-        }
-        ForecastAnswer::Refused(f) => {
-            print::refusal(page, f);
-        }
-    }
-    forms::say(page, forms::OUTPUT, 0, 0);
-    print::cells(page, out);
-    page::put(page, b'\n');
-}
+// The worked case of the document, of which most others tell what they have in its place. All faces are open.
+const WORKED: Forecast = Forecast {
+    name: "cells 300 150 700 between 100 and 0",
+    road: roads::A,
+    cells: &[300, 150, 700],
+    ups: &[100],
+    downs: &[0],
+    horizon: 1,
+    caps: &[OPEN; 4],
+    totals: calls::NONE,
+    places: 3,
+};
 
-// The same with its name, where nothing was counted before.
-pub fn show(
-    page: &mut Page,
-    line: usize,
-    road: Road,
-    cells: &[u32],
-    ups: &[u32],
-    downs: &[u32],
-    horizon: u32,
-    caps: &[u32],
-    out: &mut [u32],
-) {
-    forms::say(page, line, 0, 0);
-    let none = Totals {
-        entered: 0,
-        left: 0,
-    };
-    told(page, road, cells, ups, downs, horizon, caps, none, out);
-}
+// An empty cell between empty ends.
+const ONE: Forecast = Forecast {
+    cells: &[0],
+    ups: &[0],
+    caps: &[OPEN; 2],
+    places: 1,
+    ..WORKED
+};
 
-// A road, cells, upstream and downstream ends, the steps, and the places of the output.
-#[derive(Clone, Copy)]
-struct Case(u8, u8, u8, u8, u32, usize);
+// As many full cells and steps as there can be, between empty ends.
+const JAM: Forecast = Forecast {
+    cells: &[1000; 256],
+    ups: &[0; 1440],
+    downs: &[0; 1440],
+    horizon: 1440,
+    caps: &[OPEN; 257],
+    places: 256,
+    ..WORKED
+};
 
-const COUNT: usize = 17;
-
-const CASES: [Case; COUNT] = [
-    Case(A, few::ONE_101, EMPTY, EMPTY, 1, 1),
-    Case(A, CELLS, ONE_100, EMPTY, 1, 3),
-    Case(A, few::FEW_UNITS, few::ONE_1, EMPTY, 1, 3),
-    Case(roads::NARROWEST, few::UNIT_EMPTY, EMPTY, EMPTY, 1, 2),
-    Case(roads::D_0, CELLS, ONE_100, EMPTY, 1, 3),
-    Case(roads::P_6, CELLS, ONE_100, EMPTY, 1, 3),
-    Case(roads::C_1000, CELLS, ONE_100, EMPTY, 1, 3),
-    Case(roads::C_201, CELLS, ONE_100, EMPTY, 1, 3),
-    Case(A, NONE, ONE_100, EMPTY, 1, 3),
-    Case(A, CELLS, ONE_100, EMPTY, 1441, 3),
-    Case(A, CELLS, few::TWO_100, EMPTY, 1, 3),
-    Case(A, CELLS, ONE_100, NONE, 1, 3),
-    Case(A, CELLS, ONE_100, EMPTY, 1, 2),
-    Case(A, few::ABOVE_AT_2, ONE_100, EMPTY, 1, 2),
-    Case(A, few::ABOVE_AT_2_AND_3, ONE_100, EMPTY, 1, 3),
-    Case(A, CELLS, few::FULL_ABOVE, few::ABOVE_EMPTY, 2, 3),
-    Case(A, CELLS, few::FULL_FULL, few::ABOVE_ABOVE, 2, 3),
+static CASES: [Forecast<'static>; 17] = [
+    Forecast {
+        name: "one cell 101, ends 0",
+        cells: &[101],
+        ..ONE
+    },
+    WORKED,
+    Forecast {
+        name: "cells 7 2 9 between 1 and 0",
+        cells: &[7, 2, 9],
+        ups: &[1],
+        ..WORKED
+    },
+    Forecast {
+        name: "cells 1 0 of the road with D p q 1, ends 0",
+        road: roads::NARROWEST,
+        cells: &[1, 0],
+        caps: &[OPEN; 3],
+        places: 2,
+        ..ONE
+    },
+    Forecast {
+        name: "D 0",
+        road: roads::D_0,
+        ..WORKED
+    },
+    Forecast {
+        name: "p 6",
+        road: roads::P_6,
+        ..WORKED
+    },
+    Forecast {
+        name: "C 1000",
+        road: roads::C_1000,
+        ..WORKED
+    },
+    Forecast {
+        name: "C 201",
+        road: roads::C_201,
+        ..WORKED
+    },
+    Forecast {
+        name: "no cells",
+        cells: &[],
+        caps: &[OPEN],
+        ..WORKED
+    },
+    Forecast {
+        name: "T 1441 with ends of 1",
+        horizon: 1441,
+        ..WORKED
+    },
+    Forecast {
+        name: "two upstream ends for T 1",
+        ups: &[100, 100],
+        ..WORKED
+    },
+    Forecast {
+        name: "no downstream end for T 1",
+        downs: &[],
+        ..WORKED
+    },
+    Forecast {
+        name: "output of 2 for 3 cells",
+        places: 2,
+        ..WORKED
+    },
+    Forecast {
+        name: "output of 2 and a cell above J",
+        cells: &[300, 1001, 700],
+        places: 2,
+        ..WORKED
+    },
+    Forecast {
+        name: "cells 2 and 3 above J",
+        cells: &[1000, 1001, u32::MAX],
+        ..WORKED
+    },
+    Forecast {
+        name: "upstream above J at step 1",
+        ups: &[1000, 1001],
+        downs: &[1001, 0],
+        horizon: 2,
+        ..WORKED
+    },
+    Forecast {
+        name: "downstream above J at step 0",
+        ups: &[1000, 1000],
+        downs: &[1001, 1001],
+        horizon: 2,
+        ..WORKED
+    },
 ];
 
-// A forecast of short lists, all faces open, with an output of 7s.
-fn short(page: &mut Page, line: usize, case: Case) {
-    let xs = few::list(case.1);
-    let us = few::list(case.2);
-    let ds = few::list(case.3);
-    let open = [OPEN; 4];
-    let mut out = [7u32; 3];
-    let n = few::count(case.1);
-    let u = few::count(case.2);
-    let d = few::count(case.3);
-    let faces = n + 1;
-    let places = few::within(case.5, 3);
-    show(
-        page,
-        line,
-        roads::road(case.0),
-        &xs[..n],
-        &us[..u],
-        &ds[..d],
-        case.4,
-        &open[..faces],
-        &mut out[..places],
-    );
-}
+static EDGES: [Forecast<'static>; 13] = [
+    Forecast {
+        name: "n 3, T 0",
+        cells: &[300; 3],
+        ups: &[],
+        downs: &[],
+        horizon: 0,
+        ..WORKED
+    },
+    Forecast {
+        name: "n 1, T 1440, an empty road",
+        ups: &[0; 1440],
+        downs: &[0; 1440],
+        horizon: 1440,
+        ..ONE
+    },
+    Forecast {
+        name: "n 1, T 1440",
+        cells: &[1000],
+        ups: &[1000; 1440],
+        downs: &[0; 1440],
+        horizon: 1440,
+        ..ONE
+    },
+    Forecast {
+        name: "n 256, T 1440, a jam that dissolves",
+        ..JAM
+    },
+    Forecast {
+        name: "n 256, T 1440, a jam that stays",
+        ups: &[1000; 1440],
+        downs: &[1000; 1440],
+        ..JAM
+    },
+    Forecast {
+        name: "D and J at their ceilings",
+        road: roads::WIDEST,
+        cells: &[1_000_000; 256],
+        ups: &[1_000_000; 1440],
+        ..JAM
+    },
+    Forecast {
+        name: "D and J at their ceilings, one empty cell",
+        road: roads::WIDEST,
+        ups: &[1_000_000; 1440],
+        downs: &[0; 1440],
+        horizon: 1440,
+        ..ONE
+    },
+    Forecast {
+        name: "n 257",
+        cells: &[300; 257],
+        ups: &[1000],
+        caps: &[OPEN; 258],
+        places: 257,
+        ..WORKED
+    },
+    Forecast {
+        name: "no cells, T 1441",
+        cells: &[],
+        ups: &[0; 1441],
+        downs: &[0; 1441],
+        horizon: 1441,
+        caps: &[OPEN],
+        places: 0,
+        ..ONE
+    },
+    Forecast {
+        name: "T 1441",
+        ups: &[0; 1441],
+        downs: &[0; 1441],
+        horizon: 1441,
+        ..ONE
+    },
+    Forecast {
+        name: "T 1441 with ends of 1440",
+        ups: &[0; 1440],
+        downs: &[0; 1440],
+        horizon: 1441,
+        ..ONE
+    },
+    Forecast {
+        name: "T 4096 with ends of 1441",
+        ups: &[0; 1441],
+        downs: &[0; 1441],
+        horizon: 4096,
+        ..ONE
+    },
+    Forecast {
+        name: "T 1440 with ends of 1439",
+        ups: &[0; 1439],
+        downs: &[0; 1439],
+        horizon: 1440,
+        ..ONE
+    },
+];
 
 // The worked cases, and a refusal for each number of a forecast.
 pub fn cases(page: &mut Page) {
-    for i in 0..COUNT {
-        short(page, forms::FORECASTS + i, CASES[i]);
-    }
-}
-
-// A road, the density of all cells, of all upstream and of all downstream ends, how many cells and ends, and the steps.
-#[derive(Clone, Copy)]
-struct Edge(u8, u32, u32, u32, usize, usize, u32);
-
-const EDGE_COUNT: usize = 13;
-
-const EDGES: [Edge; EDGE_COUNT] = [
-    Edge(A, 300, 1000, 0, 3, 0, 0),
-    Edge(A, 0, 0, 0, 1, 1440, 1440),
-    Edge(A, 1000, 1000, 0, 1, 1440, 1440),
-    Edge(A, 1000, 0, 0, 256, 1440, 1440),
-    Edge(A, 1000, 1000, 1000, 256, 1440, 1440),
-    Edge(WIDEST, 1_000_000, 1_000_000, 0, 256, 1440, 1440),
-    Edge(WIDEST, 0, 1_000_000, 0, 1, 1440, 1440),
-    Edge(A, 300, 1000, 0, 257, 1, 1),
-    Edge(A, 0, 0, 0, 0, 1441, 1441),
-    Edge(A, 0, 0, 0, 1, 1441, 1441),
-    Edge(A, 0, 0, 0, 1, 1440, 1441),
-    Edge(A, 0, 0, 0, 1, 1441, 4096),
-    Edge(A, 0, 0, 0, 1, 1439, 1440),
-];
-
-// A forecast of n cells of one density, with so many ends of one density each and all faces open, over t steps.
-fn long(
-    page: &mut Page,
-    line: usize,
-    road: u8,
-    cell: u32,
-    up: u32,
-    down: u32,
-    n: usize,
-    ends: usize,
-    t: u32,
-) {
-    let cells = lists::cells(cell);
-    let ups = lists::ends(up);
-    let downs = lists::ends(down);
-    let open = lists::caps(OPEN);
-    let mut out = lists::cells(7);
-    if n <= lists::CELLS {
-        if ends <= lists::ENDS {
-            let faces = n + 1;
-            show(
-                page,
-                line,
-                roads::road(road),
-                &cells[..n],
-                &ups[..ends],
-                &downs[..ends],
-                t,
-                &open[..faces],
-                &mut out[..n],
-            );
-        }
+    for forecast in &CASES {
+        forecast.show(page);
     }
 }
 
 // The accepted edges, and one beyond each.
 pub fn edges(page: &mut Page) {
-    for i in 0..EDGE_COUNT {
-        let edge = EDGES[i];
-        long(
-            page,
-            forms::EDGES + i,
-            edge.0,
-            edge.1,
-            edge.2,
-            edge.3,
-            edge.4,
-            edge.5,
-            edge.6,
-        );
+    for forecast in &EDGES {
+        forecast.show(page);
     }
 }

@@ -2,9 +2,9 @@
 // roadworks. One line a case and a comparison, held to stdout.
 #![tactic(auto)]
 
+mod calls;
 mod faces;
 mod forecasts;
-mod forms;
 mod in_place;
 mod roads;
 mod roadworks;
@@ -12,26 +12,24 @@ mod settlings;
 mod stillness;
 mod totals;
 
-use printing::page;
-use printing::page::Streams;
+use printing::{Form, Page, Stream, Streams};
 
 fn main(rt: HostRuntime) {
     let streams = Streams {
         output: rt.stdout(),
         errors: rt.stderr(),
     };
-    let mut page = page::open(streams, page::OUTPUT);
+    let mut page = Page::open(streams, Stream::Output, Form::Lines);
     roads::cases(&mut page);
     faces::cases(&mut page);
     forecasts::cases(&mut page);
     forecasts::edges(&mut page);
     settlings::cases(&mut page);
-    settlings::long_cases(&mut page);
     stillness::cases(&mut page);
     totals::cases(&mut page);
     totals::chain(&mut page);
     in_place::cases(&mut page);
     roadworks::cases(&mut page);
     roadworks::full_totals(&mut page);
-    page::sent(&mut page);
+    page.send();
 }

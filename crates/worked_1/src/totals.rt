@@ -1,146 +1,145 @@
 // Totals since commissioning: increased beside the own counts, at the largest and one unit past it, and carried along a
 // chain.
-use super::forms;
+use super::calls::Forecast;
 use forecast::{ForecastAnswer, Record};
-use printing::page;
-use printing::page::Page;
+use printing::Page;
 use scheme::{OPEN, Totals};
-use worked::few::{EMPTY, NONE};
-use worked::roads::A;
-use worked::{few, print, roads};
+use worked::{print, roads};
 
-// The largest total.
-pub const LARGEST: u64 = 18446744073709551615;
+// The starred cell between empty ends over one step, with totals so far.
+const STARRED: Forecast = Forecast {
+    name: "one cell 101, ends 0, totals 7 and 5",
+    road: roads::A,
+    cells: &[101],
+    ups: &[0],
+    downs: &[0],
+    horizon: 1,
+    caps: &[OPEN; 2],
+    totals: Totals {
+        entered: 7,
+        left: 5,
+    },
+    places: 1,
+};
 
-fn counted(page: &mut Page, d: Record) {
-    let own = d.own;
-    let totals = d.totals;
-    forms::say(page, forms::TOTALS, own.entered, own.left);
-    forms::say(page, forms::SO_FAR, totals.entered, totals.left);
-}
+// The same with both totals the largest.
+pub const LARGEST: Forecast = Forecast {
+    name: "T 1, both totals the largest",
+    totals: Totals {
+        entered: u64::MAX,
+        left: u64::MAX,
+    },
+    ..STARRED
+};
 
-// One forecast of one cell over no step or one, and what it left in the output.
-fn show(page: &mut Page, line: usize, ups: &[u32], downs: &[u32], horizon: u32, totals: Totals) {
-    forms::say(page, line, 0, 0);
-    let mut out = [7u32; 1];
-    let road = roads::road(A);
-    match forecast::forecast(
-        road,
-        &[101],
-        ups,
-        downs,
-        horizon,
-        &[OPEN, OPEN],
-        totals,
-        &mut out,
-    ) {
-        ForecastAnswer::Done(d) => counted(page, d),
-        ForecastAnswer::Refused(f) => print::refusal(page, f),
-    }
-    forms::say(page, forms::OUTPUT, 0, 0);
-    print::cells(page, &out);
-    page::put(page, b'\n');
-}
-
-// Upstream and downstream ends, the steps, and the totals so far.
-#[derive(Clone, Copy)]
-struct Case(u8, u8, u32, u64, u64);
-
-const COUNT: usize = 8;
-
-const CASES: [Case; COUNT] = [
-    Case(EMPTY, EMPTY, 1, 7, 5),
-    Case(EMPTY, EMPTY, 1, 7, LARGEST - 81),
-    Case(EMPTY, EMPTY, 1, 7, LARGEST - 80),
-    Case(few::ONE_1000, EMPTY, 1, LARGEST - 160, 5),
-    Case(few::ONE_1000, EMPTY, 1, LARGEST - 159, 5),
-    Case(NONE, NONE, 0, LARGEST, LARGEST),
-    Case(EMPTY, EMPTY, 1, LARGEST, LARGEST),
-    Case(EMPTY, few::ONE_1001, 1, LARGEST, LARGEST),
+static CASES: [Forecast<'static>; 8] = [
+    STARRED,
+    Forecast {
+        name: "total left that comes to the largest",
+        totals: Totals {
+            entered: 7,
+            left: u64::MAX - 81,
+        },
+        ..STARRED
+    },
+    Forecast {
+        name: "total left one unit past it",
+        totals: Totals {
+            entered: 7,
+            left: u64::MAX - 80,
+        },
+        ..STARRED
+    },
+    Forecast {
+        name: "upstream 1000, total entered that comes to the largest",
+        ups: &[1000],
+        totals: Totals {
+            entered: u64::MAX - 160,
+            left: 5,
+        },
+        ..STARRED
+    },
+    Forecast {
+        name: "total entered one unit past it",
+        ups: &[1000],
+        totals: Totals {
+            entered: u64::MAX - 159,
+            left: 5,
+        },
+        ..STARRED
+    },
+    Forecast {
+        name: "T 0, both totals the largest",
+        ups: &[],
+        downs: &[],
+        horizon: 0,
+        ..LARGEST
+    },
+    LARGEST,
+    Forecast {
+        name: "downstream above J, both totals the largest",
+        downs: &[1001],
+        ..LARGEST
+    },
 ];
 
-// A forecast of the starred cell.
-fn of_101(page: &mut Page, line: usize, case: Case) {
-    let us = few::list(case.0);
-    let ds = few::list(case.1);
-    let u = few::count(case.0);
-    let d = few::count(case.1);
-    let totals = Totals {
-        entered: case.3,
-        left: case.4,
-    };
-    show(page, line, &us[..u], &ds[..d], case.2, totals);
+// The units of a forecast and the totals after it.
+fn count(page: &mut Page, d: Record) {
+    let own = d.own;
+    let totals = d.totals;
+    write!(
+        page,
+        ": entered {}, left {}, totals {} {}",
+        own.entered, own.left, totals.entered, totals.left
+    );
 }
 
 // The increase, the largest total, and one unit past it.
 pub fn cases(page: &mut Page) {
-    for i in 0..COUNT {
-        of_101(page, forms::FULL + i, CASES[i]);
+    for forecast in &CASES {
+        let mut out = [7];
+        write!(page, "{}", forecast.name);
+        match forecast.made(&mut out) {
+            ForecastAnswer::Done(d) => count(page, d),
+            ForecastAnswer::Refused(f) => print::refusal(page, f),
+        }
+        print::output(page, &out);
+        writeln!(page);
     }
 }
 
-// The site's cells after a call.
-fn told(page: &mut Page, cells: &[u32]) {
-    forms::say(page, forms::CELLS, 0, 0);
-    print::cells(page, cells);
-    page::put(page, b'\n');
-}
+// The upstream and the downstream end of each call of a chain: the third is refused.
+static CHAIN: [(u32, u32); 5] = [(100, 0), (100, 0), (1001, 0), (120, 0), (150, 900)];
 
-// One call of the chain, which a site's cells and totals go through; the totals after it. A refused call leaves both as they
-// were.
-fn fed(page: &mut Page, cells: &mut [u32; 3], totals: Totals, up: u32, down: u32) -> Totals {
-    forms::say(page, forms::CHAIN, up as u64, down as u64);
-    let mut out = [7u32; 3];
-    match forecast::forecast(
-        roads::road(A),
-        cells,
-        &[up],
-        &[down],
-        1,
-        &[OPEN; 4],
-        totals,
-        &mut out,
-    ) {
-        ForecastAnswer::Done(d) => {
-            counted(page, d);
-            cells[0] = out[0];
-            cells[1] = out[1];
-            cells[2] = out[2];
-            told(page, &out);
-            d.totals
-        }
-        ForecastAnswer::Refused(f) => {
-            print::refusal(page, f);
-            told(page, cells);
-            totals
-        }
-    }
-}
-
-// The ends of each call: the third is refused.
-#[derive(Clone, Copy)]
-struct Ends(u32, u32);
-
-const CALLS: usize = 5;
-
-const CHAIN: [Ends; CALLS] = [
-    Ends(100, 0),
-    Ends(100, 0),
-    Ends(1001, 0),
-    Ends(120, 0),
-    Ends(150, 900),
-];
-
-// From the worked case's cells on, which have 1150 units: at every line 1150 and the total entered are the units of the
-// cells and the total left.
+// A site's cells and totals go through the calls, from the worked case's cells on, which have 1150 units: at every line 1150
+// and the total entered are the units of the cells and the total left. A refused call leaves both as they were.
 pub fn chain(page: &mut Page) {
-    let mut cells = few::list(few::CELLS);
+    let mut cells = [300, 150, 700];
     let mut totals = Totals {
         entered: 0,
         left: 0,
     };
-    for i in 0..CALLS {
-        let ends = CHAIN[i];
-        totals = fed(page, &mut cells, totals, ends.0, ends.1);
+    for (up, down) in &CHAIN {
+        write!(page, "chain, ends {up} and {down}");
+        let mut out = [7; 3];
+        let step = Forecast {
+            cells: &cells,
+            ups: &[*up],
+            downs: &[*down],
+            caps: &[OPEN; 4],
+            totals,
+            ..STARRED
+        };
+        match step.made(&mut out) {
+            ForecastAnswer::Done(d) => {
+                count(page, d);
+                cells = out;
+                totals = d.totals;
+            }
+            ForecastAnswer::Refused(f) => print::refusal(page, f),
+        }
+        write!(page, ", cells");
+        print::cells(page, &cells);
+        writeln!(page);
     }
 }
