@@ -5,72 +5,88 @@ mod files;
 mod rows;
 mod steps;
 
-use cli_arguments::options::Options;
+use cli_arguments::options::Picture as Target;
 use cli_arguments::words;
-use cli_request::{buffers, status};
-use printing::page::Page;
-use printing::{page, say};
-use road::Road;
-use rows::Sizes;
+use cli_request::{Forecast, Refused, Status};
+use printing::{Form, Page, Streams};
+use rows::Picture;
+use std::io::Error;
 use std::rt::{Env, Files};
 
-// What is printed, one form a line (`printing::say::form`).
-const FORMS: [u8; 76] = *b"done picture % %|
-picture|  % by % pixels; a step is % wide, a cell % high|
-";
-
-const LINE: usize = 0;
-
-const REPORT: usize = 1;
-
-fn report(page: &mut Page, lines: bool, s: Sizes) {
-    let form = if lines { LINE } else { REPORT };
-    say::form(
-        page,
-        &FORMS,
-        form,
-        s.width as u64,
-        s.height as u64,
-        s.across as u64,
-        s.upward as u64,
-    );
-}
-
-// The picture saved; the status. What was said before goes out first.
-fn saved_and_told<R: Env + Files>(
-    rt: &R,
-    page: &mut Page,
-    o: Options,
-    shades: &[u8],
-    s: Sizes,
-) -> u8 {
-    page::sent(page);
-    let mut word = io::buffer();
-    let k = words::copied(rt, o.picture, &mut word);
-    let path = words::behind(&word[..k], o.picture_from);
-    if !files::saved(rt, page::streams_of(page), o, path, shades, s) {
-        return status::FILE;
+fn report(page: &mut Page, picture: &Picture) {
+    let width = picture.width;
+    let height = picture.height;
+    match page.form() {
+        Form::Lines => writeln!(page, "done picture {width} {height}"),
+        Form::Text => writeln!(
+            page,
+            "picture\n  {width} by {height} pixels; a step is {} wide, a cell {} high",
+            picture.across, picture.upward
+        ),
     }
-    report(page, o.lines, s);
-    status::DONE
 }
 
-// The picture of a forecast that was made; the status. The two lists of cells are used up.
+// The picture at a path, by way of the temporary name that the argument at a place is, where there is one.
+fn saved_at<R: Env + Files>(
+    rt: &R,
+    through: Option<usize>,
+    path: &[u8],
+    picture: &Picture,
+) -> Result<(), Error> {
+    let Some(place) = through else {
+        return files::overwrite(rt, path, picture);
+    };
+    let mut temporary = io::buffer();
+    let n = words::copied(rt, place, &mut temporary);
+    files::replace(rt, &temporary[..n], path, picture)
+}
+
+// What came of a name; why it failed is said of it.
+fn told(streams: Streams, name: &[u8], done: Result<(), Error>) -> Status {
+    match done {
+        Ok(()) => Status::Done,
+        Err(e) => {
+            streams.tell(name, e);
+            Status::File
+        }
+    }
+}
+
+fn saved<R: Env + Files>(
+    rt: &R,
+    streams: Streams,
+    through: Option<usize>,
+    to: Target,
+    picture: &Picture,
+) -> Status {
+    match to {
+        Target::StandardOutput => {
+            let mut output = streams.output;
+            told(streams, b"standard output", picture.write(&mut output))
+        }
+        Target::Path { place, from } => {
+            let mut word = io::buffer();
+            let n = words::copied(rt, place, &mut word);
+            let path = word[..n].get(from..).unwrap_or(&[]);
+            told(streams, path, saved_at(rt, through, path, picture))
+        }
+    }
+}
+
+// The picture of a forecast that was made. What was said before goes out first.
 pub fn act<R: Env + Files>(
     rt: &R,
     page: &mut Page,
-    o: Options,
-    road: Road,
-    cells: &mut [u32],
-    ups: &[u32],
-    downs: &[u32],
-    caps: &[u32],
-    out: &mut [u32],
-) -> u8 {
-    let mut shades = buffers::shades();
-    if !steps::worked(road, cells, ups, downs, caps, out, &mut shades) {
-        return status::REFUSED;
+    through: Option<usize>,
+    to: Target,
+    run: &mut Forecast,
+) -> Result<Status, Refused> {
+    let shades = steps::worked(run).map_err(|refusal| run.refused(refusal))?;
+    let picture = Picture::of(shades, run.cells.len(), run.upstream.len() + 1);
+    page.send();
+    let status = saved(rt, page.streams(), through, to, &picture);
+    if status == Status::Done {
+        report(page, &picture);
     }
-    let s = rows::measured(cells.len(), ups.len() + 1);
-    saved_and_told(rt, page, o, &shades, s)
+    Ok(status)
 }

@@ -1,102 +1,76 @@
-// The rows of the picture, lowest cell first, written to a file or a stream.
-use super::steps::{CELLS, STEPS};
-use cli_request::{buffers, numbers};
-use std::io::{Error, ErrorKind, Write};
+// The picture: its sizes, and its rows, lowest cell first, written to a file or a stream.
+use super::steps::{STEPS, Shades};
+use arrayvec::ArrayVec;
+use cli_request::numbers;
+use std::io::{Error, Write};
 
 // The pixels that the picture comes to about, where blocks of whole pixels allow it.
 const WIDE: u32 = 1024;
 
 const HIGH: u32 = 512;
 
-// The sizes of a picture: cells and columns, the pixels of a column across and of a cell upward, the whole, a row's bytes.
-#[derive(Clone, Copy)]
-pub struct Sizes {
-    pub cells: usize,
-    pub columns: usize,
+// The start of the file, up to its first row.
+const START: usize = 1078;
+
+// The room of a row's bytes: the widest has a pixel for each step and one for the start, filled up to four. Fewer steps are
+// stretched to at most 1,024 pixels, which is less.
+const ROW: usize = (STEPS + 3) / 4 * 4;
+
+// A picture of so many cells at so many columns of time: the pixels of a column across and of a cell upward, and the whole.
+#[derive(Drop)]
+pub struct Picture {
+    shades: Shades,
+    cells: usize,
+    columns: usize,
     pub across: u32,
     pub upward: u32,
     pub width: u16,
     pub height: u16,
-    pub bytes: usize,
 }
 
 fn pixels(count: u32, each: u32) -> u16 {
-    let all = (count as u64) * (each as u64);
-    if all < 65536 { all as u16 } else { 65535 }
+    u16::try_from(count.saturating_mul(each)).unwrap_or(u16::MAX)
 }
 
 fn small(n: usize) -> u32 {
-    if n < 65536 { n as u32 } else { 65535 }
+    n.min(65535) as u32
 }
 
-pub fn measured(cells: usize, columns: usize) -> Sizes {
-    let across = cli_picture::scale(small(columns), WIDE);
-    let upward = cli_picture::scale(small(cells), HIGH);
-    let width = pixels(small(columns), across);
-    Sizes {
-        cells,
-        columns,
-        across,
-        upward,
-        width,
-        height: pixels(small(cells), upward),
-        bytes: cli_picture::row_bytes(width) as usize,
+impl Picture {
+    pub fn of(shades: Shades, cells: usize, columns: usize) -> Picture {
+        let across = cli_picture::scale(small(columns), WIDE);
+        let upward = cli_picture::scale(small(cells), HIGH);
+        Picture {
+            shades,
+            cells,
+            columns,
+            across,
+            upward,
+            width: pixels(small(columns), across),
+            height: pixels(small(cells), upward),
+        }
     }
-}
 
-// A row, as often as a cell is high.
-fn repeated<W: Write>(to: &mut W, row: &[u8], upward: u32) -> Result<(), Error> {
-    for _ in 0..upward {
-        to.write_all(row)?;
+    // The rows of one cell: the same row, as often as a cell is high.
+    fn write_cell<W: Write>(&self, to: &mut W, shades: &[u8]) -> Result<(), Error> {
+        let bytes = cli_picture::row_bytes(self.width) as usize;
+        let mut row: ArrayVec<u8, ROW> = numbers::filled(0, bytes);
+        cli_picture::stretch(shades, self.across, &mut row);
+        for _ in 0..self.upward {
+            to.write_all(&row)?;
+        }
+        Ok(())
     }
-    Ok(())
-}
 
-fn stretched<W: Write>(to: &mut W, shades: &[u8], s: Sizes, row: &mut [u8]) -> Result<(), Error> {
-    cli_picture::stretch(shades, s.across, row);
-    repeated(to, row, s.upward)
-}
-
-// The rows of one cell.
-fn drawn_cell<W: Write>(to: &mut W, shades: &[u8], s: Sizes) -> Result<(), Error> {
-    let mut row = buffers::row();
-    let n = numbers::within_codes(s.bytes, &row);
-    stretched(to, shades, s, &mut row[..n])
-}
-
-// Of a cell or a step that the shades have no room for.
-fn beyond() -> Error {
-    Error::from(ErrorKind::InvalidInput)
-}
-
-// The rows of cell i, counted from 0.
-fn drawn<W: Write>(to: &mut W, shades: &[u8], i: usize, s: Sizes) -> Result<(), Error> {
-    let columns = s.columns;
-    if CELLS <= i {
-        return Err(beyond());
+    // The whole file.
+    pub fn write<W: Write>(&self, to: &mut W) -> Result<(), Error> {
+        let mut start = [0; START];
+        cli_picture::write_start(self.width, self.height, &mut start);
+        to.write_all(&start)?;
+        for shades in self.shades.iter().take(self.cells) {
+            let columns = self.columns.min(shades.len());
+            self.write_cell(to, &shades[..columns])?;
+        }
+        Ok(())
     }
-    if STEPS < columns {
-        return Err(beyond());
-    }
-    let a = i * STEPS;
-    let e = a + columns;
-    if shades.len() < e {
-        return Err(beyond());
-    }
-    drawn_cell(to, &shades[a..e], s)
-}
-
-// All rows, the lowest cell first.
-fn drawn_all<W: Write>(to: &mut W, shades: &[u8], s: Sizes) -> Result<(), Error> {
-    for i in 0..s.cells {
-        drawn(to, shades, i, s)?;
-    }
-    Ok(())
-}
-
-pub fn written<W: Write>(to: &mut W, shades: &[u8], s: Sizes) -> Result<(), Error> {
-    let mut start = buffers::start();
-    cli_picture::write_start(s.width, s.height, &mut start);
-    to.write_all(&start)?;
-    drawn_all(to, shades, s)
 }

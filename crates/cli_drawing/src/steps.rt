@@ -1,78 +1,48 @@
 // The shades of every cell at every step, worked before anything is written.
-use cli_request::numbers;
-use forecast::ForecastAnswer;
+use cli_request::{Forecast, numbers};
+use refusal::Refusal;
 use road::Road;
 use scheme::Totals;
 
-// The most cells, and the room of a cell's shades: one for each step and one for the start.
-pub const CELLS: usize = Road::CELLS as usize;
-
+// The room of a cell's shades: one for each step and one for the start.
 pub const STEPS: usize = Road::HORIZON as usize + 1;
 
-// One cell's shade at one step, where there is room.
-fn put(shades: &mut [u8], cell: usize, step: usize, shade: u8) {
-    if cell < CELLS {
-        if step < STEPS {
-            let at = cell * STEPS + step;
-            if at < shades.len() {
-                shades[at] = shade;
-            }
+// A row of shades for each of the most cells.
+pub type Shades = [[u8; STEPS]; Road::CELLS as usize];
+
+// The shades of all cells at one step.
+fn record(shades: &mut Shades, step: usize, cells: &[u32], jam: u32) {
+    for (row, cell) in shades.iter_mut().zip(cells) {
+        if let Some(shade) = row.get_mut(step) {
+            *shade = cli_picture::shade(*cell, jam);
         }
     }
 }
 
-// The shades of all cells at one step.
-fn record(cells: &[u32], jam: u32, step: usize, shades: &mut [u8]) {
-    for i in 0..cells.len() {
-        put(shades, i, step, cli_picture::shade(cells[i], jam));
-    }
-}
-
-// The cells become those of the list, as far as both go.
-fn copy(from: &[u32], to: &mut [u32]) {
-    let n = numbers::within(from.len(), to);
-    for i in 0..n {
-        to[i] = from[i];
-    }
-}
-
-// One step of the forecast, in place; whether it was made. The picture is drawn once the totals were judged: none are
-// carried here.
-fn step(road: Road, cells: &mut [u32], up: u32, down: u32, caps: &[u32], out: &mut [u32]) -> bool {
-    let ups = [up; 1];
-    let downs = [down; 1];
+// The shades at the start and after every step; the run's cells are then the last ones. The picture is drawn once the totals
+// were judged: none are carried here.
+pub fn worked(run: &mut Forecast) -> Result<Shades, Refusal> {
     let none = Totals {
         entered: 0,
         left: 0,
     };
-    match forecast::forecast(road, cells, &ups, &downs, 1, caps, none, out) {
-        ForecastAnswer::Done(_) => {
-            copy(out, cells);
-            true
-        }
-        ForecastAnswer::Refused(_) => false,
+    let jam = run.road.jam;
+    let mut shades = [[0; STEPS]; Road::CELLS as usize];
+    record(&mut shades, 0, &run.cells, jam);
+    for (t, (up, down)) in run.upstream.iter().zip(run.downstream.iter()).enumerate() {
+        let mut out = numbers::filled(0, run.cells.len());
+        forecast::forecast(
+            run.road,
+            &run.cells,
+            &[*up],
+            &[*down],
+            1,
+            &run.caps,
+            none,
+            &mut out,
+        )?;
+        record(&mut shades, t + 1, &out, jam);
+        run.cells = out;
     }
-}
-
-// The start and every step; whether all were made.
-pub fn worked(
-    road: Road,
-    cells: &mut [u32],
-    ups: &[u32],
-    downs: &[u32],
-    caps: &[u32],
-    out: &mut [u32],
-    shades: &mut [u8],
-) -> bool {
-    record(cells, road.jam, 0, shades);
-    for t in 0..ups.len() {
-        if downs.len() <= t {
-            return false;
-        }
-        if !step(road, cells, ups[t], downs[t], caps, out) {
-            return false;
-        }
-        record(cells, road.jam, t + 1, shades);
-    }
-    true
+    Ok(shades)
 }

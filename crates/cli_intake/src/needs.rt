@@ -1,224 +1,107 @@
 // What each action needs: all of it is checked before anything is done.
-use super::errors;
-use cli_arguments::options::Options;
-use cli_request::keys::{ACTIONS, NONE, is_given};
-use cli_request::{codes, keys, numbers};
-use printing::page::Streams;
-use std::rt::Env;
+use cli_request::{Action, is_given, numbers};
+use cli_vocabulary::Key;
 
-// How many keys an action needs at most.
-pub const MOST: usize = 6;
+// Why a text is not acted on.
+#[derive(Clone, Copy)]
+pub enum Unmet {
+    // it asks for no action
+    NoAction,
+    // a picture is asked for, but no forecast
+    NoForecast,
+    // an action lacks some of its keys
+    Keys(Action),
+    // a candidate has both estimates and bits, or neither
+    BothEstimates,
+    NoEstimates,
+    // a station has a density beside a flow or a speed, or no reading
+    MixedReading,
+    NoReading,
+}
 
-// The keys that each action needs, in the order of the actions; NONE fills a row up. A candidate and a station need more, of
-// which they leave a choice.
-const NEEDS: [[u8; MOST]; ACTIONS] = [
-    [
-        codes::ROAD,
-        codes::CELLS,
-        codes::UPSTREAM,
-        codes::DOWNSTREAM,
-        codes::HORIZON,
-        NONE,
-    ],
-    [
-        codes::ROAD,
-        codes::CELLS,
-        codes::PAIR,
-        codes::HORIZON,
-        NONE,
-        NONE,
-    ],
-    [codes::ROAD, codes::CELLS, codes::PAIR, NONE, NONE, NONE],
-    [
-        codes::ROAD,
-        codes::CELLS,
-        codes::UPSTREAM,
-        codes::DOWNSTREAM,
-        codes::HORIZON,
-        codes::PAIR,
-    ],
-    [
-        codes::ROAD,
-        codes::CELLS,
-        codes::PAIR,
-        codes::WORD,
-        NONE,
-        NONE,
-    ],
-    [
-        codes::ROAD,
-        codes::CELLS,
-        codes::PAIR,
-        codes::WORD,
-        NONE,
-        NONE,
-    ],
-    [codes::ROAD, codes::MODE, NONE, NONE, NONE, NONE],
-    [NONE, NONE, NONE, NONE, NONE, NONE],
-    [codes::ROAD, NONE, NONE, NONE, NONE, NONE],
-    [codes::ROAD, codes::CELLS, codes::PAIR, NONE, NONE, NONE],
-];
+// The keys that an action needs. A candidate and a station need more, of which they leave a choice.
+pub fn needed(action: Action) -> &'static [Key] {
+    match action {
+        Action::Forecast => &[
+            Key::Road,
+            Key::Cells,
+            Key::Upstream,
+            Key::Downstream,
+            Key::Horizon,
+        ],
+        Action::Settle => &[Key::Road, Key::Cells, Key::Pair, Key::Horizon],
+        Action::Read | Action::Nearest => &[Key::Road, Key::Cells, Key::Pair],
+        Action::Readlast => &[
+            Key::Road,
+            Key::Cells,
+            Key::Upstream,
+            Key::Downstream,
+            Key::Horizon,
+            Key::Pair,
+        ],
+        Action::Fit | Action::Rows => &[Key::Road, Key::Cells, Key::Pair, Key::Word],
+        Action::Candidate => &[Key::Road, Key::Mode],
+        Action::Count => &[],
+        Action::Station => &[Key::Road],
+    }
+}
 
-// Whether the horizon is given as 0: only a forecast of no step goes without ends.
+// Whether the horizon is given as 0.
 fn goes_nowhere(text: &[u8]) -> bool {
-    if is_given(text, codes::HORIZON) {
-        numbers::one(text, codes::HORIZON) == 0
-    } else {
-        false
-    }
+    let [horizon]: [u32; 1] = numbers::numbers(text, Key::Horizon);
+    is_given(text, Key::Horizon) && horizon == 0
 }
 
-// Whether a text lacks a key that it needs.
-fn lacks(text: &[u8], key: u8) -> bool {
-    if key == NONE {
-        false
-    } else if is_given(text, key) {
-        false
-    } else if key == codes::UPSTREAM {
-        !goes_nowhere(text)
-    } else if key == codes::DOWNSTREAM {
-        !goes_nowhere(text)
-    } else {
-        true
-    }
-}
-
-// The i-th key that an action needs where the text lacks it, or NONE.
-pub fn lacking(text: &[u8], action: usize, i: usize) -> u8 {
-    if ACTIONS <= action {
-        return NONE;
-    }
-    if MOST <= i {
-        return NONE;
-    }
-    let key = NEEDS[action][i];
-    if lacks(text, key) { key } else { NONE }
-}
-
-// Whether the text has every key that an action needs.
-fn has_keys(text: &[u8], action: usize) -> bool {
-    for i in 0..MOST {
-        if lacking(text, action, i) != NONE {
-            return false;
-        }
-    }
-    true
+// Whether a text lacks a key that it needs. Only a forecast of no step goes without ends.
+pub fn lacks(text: &[u8], key: Key) -> bool {
+    let is_spared = matches!(key, Key::Upstream | Key::Downstream) && goes_nowhere(text);
+    !is_given(text, key) && !is_spared
 }
 
 // Exactly one of estimates and bits.
-fn estimates(rt: &impl Env, streams: Streams, file: usize, text: &[u8]) -> bool {
-    let whole = is_given(text, codes::ESTIMATES);
-    if whole != is_given(text, codes::BITS) {
-        return true;
+fn estimates(text: &[u8]) -> Result<(), Unmet> {
+    match (is_given(text, Key::Estimates), is_given(text, Key::Bits)) {
+        (true, true) => Err(Unmet::BothEstimates),
+        (false, false) => Err(Unmet::NoEstimates),
+        _ => Ok(()),
     }
-    if whole {
-        errors::at(
-            rt,
-            streams,
-            file,
-            text,
-            codes::CANDIDATE,
-            errors::BOTH_ESTIMATES,
-        );
-    } else {
-        errors::at(
-            rt,
-            streams,
-            file,
-            text,
-            codes::CANDIDATE,
-            errors::NO_ESTIMATES,
-        );
-    }
-    false
 }
 
 // A density alone, a flow and a speed, or a speed alone.
-fn reading(rt: &impl Env, streams: Streams, file: usize, text: &[u8]) -> bool {
-    if is_given(text, codes::DENSITY) {
-        if is_given(text, codes::FLOW) {
-            return mixed(rt, streams, file, text);
-        }
-        if is_given(text, codes::SPEED) {
-            return mixed(rt, streams, file, text);
-        }
-        return true;
-    }
-    if is_given(text, codes::SPEED) {
-        return true;
-    }
-    errors::at(rt, streams, file, text, codes::STATION, errors::NO_READING);
-    false
-}
-
-fn mixed(rt: &impl Env, streams: Streams, file: usize, text: &[u8]) -> bool {
-    errors::at(
-        rt,
-        streams,
-        file,
-        text,
-        codes::STATION,
-        errors::MIXED_READING,
-    );
-    false
-}
-
-// Whether an action that is asked for has what it needs; it gets a message where it has not.
-fn has(rt: &impl Env, streams: Streams, file: usize, text: &[u8], action: usize) -> bool {
-    if !has_keys(text, action) {
-        errors::needs(rt, streams, file, text, action);
-        return false;
-    }
-    let key = keys::action(action);
-    match key {
-        codes::CANDIDATE => estimates(rt, streams, file, text),
-        codes::STATION => reading(rt, streams, file, text),
-        _ => true,
+fn reading(text: &[u8]) -> Result<(), Unmet> {
+    let flow = is_given(text, Key::Flow);
+    let speed = is_given(text, Key::Speed);
+    match is_given(text, Key::Density) {
+        true if flow || speed => Err(Unmet::MixedReading),
+        false if !speed => Err(Unmet::NoReading),
+        _ => Ok(()),
     }
 }
 
-// Whether the text asks for something.
-fn asks(rt: &impl Env, streams: Streams, file: usize, text: &[u8]) -> bool {
-    for i in 0..ACTIONS {
-        if is_given(text, keys::action(i)) {
-            return true;
+// What an action that is asked for needs.
+fn has(text: &[u8], action: Action) -> Result<(), Unmet> {
+    if needed(action).iter().any(|key| lacks(text, *key)) {
+        return Err(Unmet::Keys(action));
+    }
+    match action {
+        Action::Candidate => estimates(text),
+        Action::Station => reading(text),
+        _ => Ok(()),
+    }
+}
+
+// That a text can be acted on: it asks for something, and for nothing that it does not give what it needs.
+pub fn met(text: &[u8], draws: bool) -> Result<(), Unmet> {
+    if !Action::ALL.iter().any(|action| action.is_asked(text)) {
+        return Err(Unmet::NoAction);
+    }
+    if draws && !is_given(text, Key::Forecast) {
+        return Err(Unmet::NoForecast);
+    }
+    for action in Action::ALL {
+        if action.is_asked(text) {
+            has(text, action)?;
         }
     }
-    errors::at(rt, streams, file, text, codes::END, errors::NO_ACTION);
-    false
-}
-
-// Whether a picture, where one is asked for, has its forecast.
-fn picture(rt: &impl Env, streams: Streams, o: Options, text: &[u8]) -> bool {
-    if o.picture == 0 {
-        return true;
-    }
-    if is_given(text, codes::FORECAST) {
-        return true;
-    }
-    errors::at(rt, streams, o.file, text, codes::END, errors::NO_FORECAST);
-    false
-}
-
-// Whether every action that the text asks for has what it needs; the first one that has not gets a message.
-fn all_have(rt: &impl Env, streams: Streams, file: usize, text: &[u8]) -> bool {
-    for i in 0..ACTIONS {
-        if is_given(text, keys::action(i)) {
-            if !has(rt, streams, file, text, i) {
-                return false;
-            }
-        }
-    }
-    true
-}
-
-// Whether a text can be acted on: it asks for something, and for nothing that it does not give what it needs.
-pub fn met(rt: &impl Env, streams: Streams, o: Options, text: &[u8]) -> bool {
-    if !asks(rt, streams, o.file, text) {
-        return false;
-    }
-    if !picture(rt, streams, o, text) {
-        return false;
-    }
-    all_have(rt, streams, o.file, text)
+    Ok(())
 }

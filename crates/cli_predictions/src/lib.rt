@@ -3,5 +3,4 @@
 
 pub mod candidates;
 pub mod counts;
-mod forms;
 pub mod predictions;

@@ -1,62 +1,40 @@
 // The row prediction.
-use super::forms;
-use super::forms::say;
-use cli_request::numbers::Pair;
-use cli_request::refusals::Input;
-use cli_request::{buffers, codes, numbers, refusals, status};
-use printing::page::Page;
-use printing::{lists, page};
-use road::Road;
-use rows::PredictAnswer;
+use arrayvec::ArrayVec;
+use cli_request::numbers::{CELLS, FACES};
+use cli_request::{Refused, State, numbers};
+use cli_vocabulary::Key;
+use printing::{Form, Page, plural};
 
-fn report(page: &mut Page, lines: bool, divisor: u32, out: &[i64]) {
-    let n = out.len() as u64;
-    if lines {
-        say(page, forms::ROWS_LINE, n, 0);
-        lists::numerators(page, true, out);
-        page::put(page, b'\n');
-    } else {
-        say(page, forms::ROWS, n, divisor as u64);
-        lists::numerators(page, false, out);
-    }
-}
-
-fn made(
-    page: &mut Page,
-    lines: bool,
-    road: Road,
-    cells: &[u32],
-    ends: Pair,
-    word: &[u8],
-    out: &mut [i64],
-) -> u8 {
-    match rows::predict(road, cells, ends.up, ends.down, word, out) {
-        PredictAnswer::Done => {
-            report(page, lines, road.divisor, out);
-            status::DONE
+fn report(page: &mut Page, divisor: u32, numerators: &[i64]) {
+    let n = numerators.len();
+    match page.form() {
+        Form::Lines => {
+            write!(page, "done rows {n}");
+            page.numerators(numerators);
+            writeln!(page);
         }
-        PredictAnswer::Refused(f) => {
-            refusals::print(page, lines, codes::ROWS, f, Input::of_cells(cells.len()));
-            status::REFUSED
+        Form::Text => {
+            writeln!(page, "rows of {n} cell{}", plural(n as u64));
+            writeln!(page, "  densities after one step, times {divisor}");
+            page.numerators(numerators);
         }
     }
 }
 
-// The rows of a text; the status.
-pub fn act(page: &mut Page, lines: bool, text: &[u8]) -> u8 {
-    let mut cells = buffers::cells();
-    let mut word = buffers::codes();
-    let mut out = buffers::rows();
-    let n = numbers::list(text, codes::CELLS, &mut cells);
-    let k = numbers::word(text, &mut word);
-    let m = numbers::within_rows(n, &out);
-    made(
-        page,
-        lines,
-        numbers::road(text),
-        &cells[..n],
-        numbers::pair_of(text),
-        &word[..k],
-        &mut out[..m],
+// The rows of a text.
+pub fn act(page: &mut Page, text: &[u8]) -> Result<(), Refused> {
+    let state = State::of(text);
+    let word: ArrayVec<u8, FACES> = numbers::list(text, Key::Word);
+    let mut numerators: ArrayVec<i64, CELLS> = numbers::filled(0, state.cells.len());
+    rows::predict(
+        state.road,
+        &state.cells,
+        state.up,
+        state.down,
+        &word,
+        &mut numerators,
     )
+    .map_err(|refusal| state.refused(refusal))?;
+    report(page, state.road.divisor, &numerators);
+    Ok(())
 }

@@ -2,5 +2,4 @@
 #![tactic(auto)]
 
 pub mod fits;
-mod forms;
 pub mod states;

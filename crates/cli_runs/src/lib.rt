@@ -2,5 +2,4 @@
 #![tactic(auto)]
 
 pub mod forecasts;
-mod forms;
 pub mod settlings;

@@ -1,89 +1,59 @@
 // The settling run.
-use super::forms;
-use super::forms::say;
-use cli_request::numbers::Pair;
-use cli_request::refusals::Input;
-use cli_request::{buffers, caps, codes, numbers, refusals, status};
-use forecast::SettleAnswer;
-use printing::page::Page;
-use printing::{lists, page};
-use road::Road;
+use arrayvec::ArrayVec;
+use cli_request::numbers::CELLS;
+use cli_request::{Refused, State, caps, numbers};
+use cli_vocabulary::Key;
+use printing::{Form, Page, plural};
 use scheme::Settled;
 
-fn flag(b: bool) -> u64 {
-    if b { 1 } else { 0 }
-}
-
-fn line(page: &mut Page, s: Settled, cells: &[u32]) {
-    let n = cells.len() as u64;
-    say(
-        page,
-        forms::SETTLE_LINE,
-        flag(s.settled),
-        s.steps as u64,
-        n,
-        0,
-    );
-    lists::densities(page, true, cells);
-    page::put(page, b'\n');
-}
-
-fn report(page: &mut Page, s: Settled, horizon: u32, caps: &[u32], cells: &[u32]) {
-    let n = cells.len() as u64;
-    say(page, forms::SETTLE, n, horizon as u64, 0, 0);
-    caps::tell(page, caps::narrowed(caps), caps.len());
-    let form = if s.settled {
-        forms::SETTLED
-    } else {
-        forms::NOT_SETTLED
-    };
-    say(page, form, s.steps as u64, 0, 0, 0);
-    lists::densities(page, false, cells);
-}
-
-fn made(
-    page: &mut Page,
-    lines: bool,
-    road: Road,
-    cells: &[u32],
-    ends: Pair,
-    horizon: u32,
-    caps: &[u32],
-    out: &mut [u32],
-) -> u8 {
-    match forecast::settle(road, cells, ends.up, ends.down, horizon, caps, out) {
-        SettleAnswer::Done(s) => {
-            if lines {
-                line(page, s, out);
-            } else {
-                report(page, s, horizon, caps, out);
-            }
-            status::DONE
+fn report(page: &mut Page, run: Settled, horizon: u32, caps: &[u32], cells: &[u32]) {
+    let n = cells.len();
+    let steps = run.steps;
+    match page.form() {
+        Form::Lines => {
+            write!(page, "done settle {} {steps} {n}", u8::from(run.settled));
+            page.list(cells);
+            writeln!(page);
         }
-        SettleAnswer::Refused(f) => {
-            let given = Input::of_settling(cells.len(), caps.len());
-            refusals::print(page, lines, codes::SETTLE, f, given);
-            status::REFUSED
+        Form::Text => {
+            write!(page, "settle of {n} cell{} within", plural(n as u64));
+            write!(page, " {horizon} step{}", plural(u64::from(horizon)));
+            caps::tell(page, caps::narrowed(caps), caps.len());
+            let outcome = if run.settled {
+                "settled"
+            } else {
+                "not settled"
+            };
+            writeln!(
+                page,
+                "\n  {outcome} after {steps} step{}",
+                plural(u64::from(steps))
+            );
+            writeln!(page, "  cells then");
+            page.list(cells);
         }
     }
 }
 
-// The settling run of a text; the status.
-pub fn act(page: &mut Page, lines: bool, text: &[u8]) -> u8 {
-    let mut cells = buffers::cells();
-    let mut caps = buffers::caps();
-    let mut out = buffers::cells();
-    let n = numbers::list(text, codes::CELLS, &mut cells);
-    let c = caps::list(text, n, &mut caps);
-    let m = numbers::within(n, &out);
-    made(
-        page,
-        lines,
-        numbers::road(text),
-        &cells[..n],
-        numbers::pair_of(text),
-        numbers::one(text, codes::HORIZON),
-        &caps[..c],
-        &mut out[..m],
+// The settling run of a text.
+pub fn act(page: &mut Page, text: &[u8]) -> Result<(), Refused> {
+    let state = State::of(text);
+    let caps = caps::of(text, &state.cells);
+    let [horizon]: [u32; 1] = numbers::numbers(text, Key::Horizon);
+    let mut out: ArrayVec<u32, CELLS> = numbers::filled(0, state.cells.len());
+    let run = forecast::settle(
+        state.road,
+        &state.cells,
+        state.up,
+        state.down,
+        horizon,
+        &caps,
+        &mut out,
     )
+    .map_err(|refusal| Refused {
+        caps: caps.len(),
+        ..state.refused(refusal)
+    })?;
+    report(page, run, horizon, &caps, &out);
+    Ok(())
 }

@@ -1,93 +1,48 @@
 // The density estimate of a station's reading.
-use cli_request::keys::is_given;
-use cli_request::refusals::Input;
-use cli_request::{codes, numbers, refusals, status};
-use printing::doubles::Integer;
-use printing::page::Page;
-use printing::{doubles, say};
-use road::Road;
-use station::{StationAnswer, StationReading};
+use cli_request::{Refused, is_given, numbers};
+use cli_vocabulary::Key;
+use printing::{Form, Page, doubles};
+use station::StationReading;
 
 // The reading of a text, which is one of the three kinds.
 fn reading(text: &[u8]) -> StationReading {
-    if is_given(text, codes::DENSITY) {
-        return StationReading::Density(numbers::quotient(text, codes::DENSITY));
+    if is_given(text, Key::Density) {
+        return StationReading::Density(numbers::quotient(text, Key::Density));
     }
-    let speed = numbers::quotient(text, codes::SPEED);
-    if is_given(text, codes::FLOW) {
-        let flow = numbers::quotient(text, codes::FLOW);
+    let speed = numbers::quotient(text, Key::Speed);
+    if is_given(text, Key::Flow) {
+        let flow = numbers::quotient(text, Key::Flow);
         StationReading::FlowAndSpeed { flow, speed }
     } else {
         StationReading::Speed(speed)
     }
 }
 
-// What is printed, one form a line (`printing::say::form`).
-const FORMS: [u8; 47] = *b"  estimate about %.%%%|
-done station 
-station|
-";
-
-const ABOUT: usize = 0;
-
-const LINE: usize = 1;
-
-const STATION: usize = 2;
-
-fn say(page: &mut Page, form: usize, a: u64, b: u64, c: u64, d: u64) {
-    say::form(page, &FORMS, form, a, b, c, d);
-}
-
-// A number of thousandths as a decimal, after its name.
-fn decimal(page: &mut Page, thousandths: u64) {
-    say(
-        page,
-        ABOUT,
-        thousandths / 1000,
-        thousandths / 100 % 10,
-        thousandths / 10 % 10,
-        thousandths % 10,
-    );
-}
-
-fn rounded(page: &mut Page, x: f64) {
-    if let Integer::Is(n) = doubles::truncated(x * 1000.0 + 0.5) {
-        decimal(page, say::size(n));
-    }
-}
-
 // For a person, an estimate that is not whole, to three decimals.
 fn about(page: &mut Page, x: f64) {
-    if let Integer::Nothing = doubles::whole(x) {
-        rounded(page, x);
+    if doubles::whole(x).is_some() {
+        return;
+    }
+    if let Some(n) = doubles::truncated(x * 1000.0 + 0.5) {
+        let thousandths = n.unsigned_abs();
+        let whole = thousandths / 1000;
+        writeln!(page, "  estimate about {whole}.{:03}", thousandths % 1000);
     }
 }
 
-fn report(page: &mut Page, lines: bool, x: f64) {
-    if lines {
-        say(page, LINE, 0, 0, 0, 0);
-        doubles::print(page, true, b"estimate", x);
-    } else {
-        say(page, STATION, 0, 0, 0, 0);
-        doubles::print(page, false, b"estimate", x);
-        about(page, x);
-    }
-}
-
-fn made(page: &mut Page, lines: bool, road: Road, reading: StationReading) -> u8 {
-    match station::station(road, reading) {
-        StationAnswer::Done(e) => {
-            report(page, lines, e.density);
-            status::DONE
+// The station of a text.
+pub fn act(page: &mut Page, text: &[u8]) -> Result<(), Refused> {
+    let estimate = station::station(numbers::road(text), reading(text))?.density;
+    match page.form() {
+        Form::Lines => {
+            write!(page, "done station ");
+            page.double("estimate", estimate);
         }
-        StationAnswer::Refused(f) => {
-            refusals::print(page, lines, codes::STATION, f, Input::of_cells(0));
-            status::REFUSED
+        Form::Text => {
+            writeln!(page, "station");
+            page.double("estimate", estimate);
+            about(page, estimate);
         }
     }
-}
-
-// The station of a text; the status.
-pub fn act(page: &mut Page, lines: bool, text: &[u8]) -> u8 {
-    made(page, lines, numbers::road(text), reading(text))
+    Ok(())
 }

@@ -2,46 +2,61 @@
 use cli_arguments::options::Options;
 use cli_predictions::{candidates, counts, predictions};
 use cli_readings::{fits, states};
-use cli_request::keys::is_given;
-use cli_request::status::worst;
-use cli_request::{codes, keys, status};
+use cli_request::{Action, Refused, Status};
 use cli_runs::{forecasts, settlings};
 use cli_site::{rankings, stations};
-use printing::page;
-use printing::page::Page;
+use printing::Page;
 use std::rt::{Env, Files};
 
 // One action of the text; the status.
-fn done<R: Env + Files>(rt: &R, page: &mut Page, o: Options, text: &[u8], action: u8) -> u8 {
+fn done<R: Env + Files>(
+    rt: &R,
+    page: &mut Page,
+    o: Options,
+    text: &[u8],
+    action: Action,
+) -> Result<Status, Refused> {
     match action {
-        codes::FORECAST => forecasts::act(rt, page, o, text),
-        codes::SETTLE => settlings::act(page, o.lines, text),
-        codes::READ => states::act(page, o.lines, text),
-        codes::FIT => fits::act(page, o.lines, text),
-        codes::ROWS => predictions::act(page, o.lines, text),
-        codes::CANDIDATE => candidates::act(page, o.lines, text),
-        codes::COUNT => counts::act(page, o.lines, text),
-        codes::READLAST => states::act_on_last(page, o.lines, text),
-        codes::STATION => stations::act(page, o.lines, text),
-        _ => rankings::act(page, o.lines, text),
+        Action::Forecast => return forecasts::act(rt, page, o, text),
+        Action::Settle => settlings::act(page, text)?,
+        Action::Read => states::act(page, text)?,
+        Action::Readlast => states::act_on_last(page, text)?,
+        Action::Fit => fits::act(page, text)?,
+        Action::Rows => predictions::act(page, text)?,
+        Action::Candidate => candidates::act(page, text)?,
+        Action::Count => counts::act(page, text)?,
+        Action::Station => stations::act(page, text)?,
+        Action::Nearest => rankings::act(page, text)?,
     }
+    Ok(Status::Done)
 }
 
-// An action where the text asks for it; the status. What it wrote goes out before the next one begins.
-fn asked<R: Env + Files>(rt: &R, page: &mut Page, o: Options, text: &[u8], action: u8) -> u8 {
-    if !is_given(text, action) {
-        return status::DONE;
-    }
-    let status = done(rt, page, o, text, action);
-    page::sent(page);
+// The same, and what is said where it was refused. What it wrote goes out before the next one begins.
+fn told<R: Env + Files>(
+    rt: &R,
+    page: &mut Page,
+    o: Options,
+    text: &[u8],
+    action: Action,
+) -> Status {
+    let status = match done(rt, page, o, text, action) {
+        Ok(status) => status,
+        Err(refused) => {
+            refused.tell(page, action);
+            Status::Refused
+        }
+    };
+    page.send();
     status
 }
 
 // All actions that the text asks for; the worst status.
-pub fn all<R: Env + Files>(rt: &R, page: &mut Page, o: Options, text: &[u8]) -> u8 {
-    let mut status = status::DONE;
-    for i in 0..keys::ACTIONS {
-        status = worst(status, asked(rt, page, o, text, keys::action(i)));
+pub fn all<R: Env + Files>(rt: &R, page: &mut Page, o: Options, text: &[u8]) -> Status {
+    let mut status = Status::Done;
+    for action in Action::ALL {
+        if action.is_asked(text) {
+            status = status.worst(told(rt, page, o, text, action));
+        }
     }
     status
 }

@@ -3,87 +3,75 @@
 
 mod actions;
 
-use cli_arguments::options::Options;
-use cli_arguments::{options, usage, words};
+use cli_arguments::options::{About, Options, Picture};
+use cli_arguments::usage;
 use cli_intake::{errors, input, needs};
-use cli_request::status::worst;
-use cli_request::{buffers, status};
-use printing::page;
-use printing::page::{Page, Streams};
+use cli_request::Status;
+use printing::{Page, Stream, Streams};
 use std::io::Input;
 use std::rt::{Env, Files};
 
 // A good text whose actions have all that they need is acted on; anything else gets one message and no result.
-fn work<R: Env + Files>(rt: &R, page: &mut Page, o: Options, text: &[u8]) -> u8 {
-    let verdict = cli_scenario::judge(text);
-    if verdict.what != 0 {
-        errors::wrong_text(rt, page::streams_of(page), o.file, text, verdict);
-        return status::TEXT;
+fn work<R: Env + Files>(rt: &R, page: &mut Page, o: Options, text: &[u8]) -> Status {
+    if let Err(verdict) = cli_scenario::judge(text) {
+        errors::wrong_text(rt, page.streams(), o.source, text, verdict);
+        return Status::Text;
     }
-    if !needs::met(rt, page::streams_of(page), o, text) {
-        return status::TEXT;
+    if let Err(unmet) = needs::met(text, o.picture.is_some()) {
+        errors::unmet(rt, page.streams(), o.source, text, unmet);
+        return Status::Text;
     }
     actions::all(rt, page, o, text)
 }
 
 // A text without the byte order mark that some editors put before it.
 fn unmarked(text: &[u8]) -> &[u8] {
-    if words::starts(text, &[0xef, 0xbb, 0xbf]) {
-        words::behind(text, 3)
-    } else {
-        text
-    }
+    text.strip_prefix(b"\xef\xbb\xbf").unwrap_or(text)
 }
 
-fn read_and_work<R: Env + Files + Input>(rt: &R, page: &mut Page, o: Options) -> u8 {
-    let mut text = buffers::text();
-    let got = input::read(rt, page::streams_of(page), o.file, &mut text);
-    let n = got.count;
-    if got.status != status::DONE {
-        return got.status;
+fn read_and_work<R: Env + Files + Input>(rt: &R, page: &mut Page, o: Options) -> Status {
+    let mut room = [0; input::ROOM];
+    match input::read(rt, page.streams(), o.source, &mut room) {
+        Ok(n) => work(rt, page, o, unmarked(&room[..n])),
+        Err(status) => status,
     }
-    work(rt, page, o, unmarked(&text[..n]))
 }
 
 // What the arguments ask for; the status.
-fn asked<R: Env + Files + Input>(rt: &R, page: &mut Page, o: Options) -> u8 {
-    if o.help {
-        usage::help(page);
-        status::DONE
-    } else if o.version {
-        usage::version(page);
-        status::DONE
-    } else if o.bad != 0 {
-        usage::refused(rt, page::streams_of(page), o.bad);
-        status::TEXT
-    } else if o.expects {
-        usage::without_path(page::streams_of(page));
-        status::TEXT
-    } else if o.pathless {
-        usage::without_path(page::streams_of(page));
-        status::TEXT
-    } else {
-        read_and_work(rt, page, o)
+fn asked<R: Env + Files + Input>(rt: &R, page: &mut Page, o: Options) -> Status {
+    match (o.about, o.wrong) {
+        (Some(About::Help), _) => {
+            usage::help(page);
+            Status::Done
+        }
+        (Some(About::Version), _) => {
+            usage::version(page);
+            Status::Done
+        }
+        (None, Some(wrong)) => {
+            usage::refused(rt, page.streams(), wrong);
+            Status::Text
+        }
+        (None, None) => read_and_work(rt, page, o),
     }
 }
 
 // Where the results go: where a picture goes to standard output, they do not.
-fn results(o: Options) -> u8 {
-    if o.to_output {
-        page::ERRORS
-    } else {
-        page::OUTPUT
+fn results(o: Options) -> Stream {
+    match o.picture {
+        Some(Picture::StandardOutput) => Stream::Errors,
+        _ => Stream::Output,
     }
 }
 
 // The status of the whole run, lost output included.
-fn run<R: Env + Files + Input>(rt: &R, streams: Streams, o: Options) -> u8 {
-    let mut page = page::open(streams, results(o));
+fn run<R: Env + Files + Input>(rt: &R, streams: Streams, o: Options) -> Status {
+    let mut page = Page::open(streams, results(o), o.form);
     let status = asked(rt, &mut page, o);
-    if page::sent(&mut page) {
+    if page.send() {
         status
     } else {
-        worst(status, status::FILE)
+        status.worst(Status::File)
     }
 }
 
@@ -92,9 +80,9 @@ fn main(rt: HostRuntime) {
         output: rt.stdout(),
         errors: rt.stderr(),
     };
-    let o = options::parsed(&rt);
+    let o = Options::parsed(&rt);
     let status = run(&rt, streams, o);
     if o.reports {
-        status::report(&rt, status);
+        status.report(&rt);
     }
 }

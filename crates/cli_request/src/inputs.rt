@@ -1,0 +1,104 @@
+// What a text gives to an action: a state with its ends, or all that a forecast takes.
+use super::numbers::{CELLS, ENDS, FACES};
+use super::refusals::{Lengths, Refused};
+use super::{caps, numbers};
+use arrayvec::ArrayVec;
+use cli_vocabulary::Key;
+use forecast::Record;
+use refusal::Refusal;
+use road::Road;
+use scheme::Totals;
+
+// A road with its cells, and the one pair of ends.
+#[derive(Drop)]
+pub struct State {
+    pub road: Road,
+    pub cells: ArrayVec<u32, CELLS>,
+    pub up: u32,
+    pub down: u32,
+}
+
+impl State {
+    // The state at the start.
+    pub fn of(text: &[u8]) -> State {
+        State::at(text, numbers::list(text, Key::Cells))
+    }
+
+    // Other cells on the text's road, between its ends.
+    pub fn at(text: &[u8], cells: ArrayVec<u32, CELLS>) -> State {
+        let [up, down]: [u32; 2] = numbers::numbers(text, Key::Pair);
+        State {
+            road: numbers::road(text),
+            cells,
+            up,
+            down,
+        }
+    }
+
+    pub fn refused(&self, refusal: Refusal) -> Refused {
+        Refused {
+            refusal,
+            cells: self.cells.len(),
+            caps: 0,
+            lengths: None,
+        }
+    }
+}
+
+// What a forecast is given.
+#[derive(Drop)]
+pub struct Forecast {
+    pub road: Road,
+    pub cells: ArrayVec<u32, CELLS>,
+    pub upstream: ArrayVec<u32, ENDS>,
+    pub downstream: ArrayVec<u32, ENDS>,
+    pub horizon: u32,
+    pub caps: ArrayVec<u32, FACES>,
+    pub totals: Totals,
+}
+
+impl Forecast {
+    pub fn of(text: &[u8]) -> Forecast {
+        let cells: ArrayVec<u32, CELLS> = numbers::list(text, Key::Cells);
+        let [horizon]: [u32; 1] = numbers::numbers(text, Key::Horizon);
+        Forecast {
+            road: numbers::road(text),
+            caps: caps::of(text, &cells),
+            cells,
+            upstream: numbers::list(text, Key::Upstream),
+            downstream: numbers::list(text, Key::Downstream),
+            horizon,
+            totals: numbers::totals(text),
+        }
+    }
+
+    // The forecast, with the cells after its last step.
+    pub fn made(&self) -> Result<(Record, ArrayVec<u32, CELLS>), Refused> {
+        let mut out = numbers::filled(0, self.cells.len());
+        let record = forecast::forecast(
+            self.road,
+            &self.cells,
+            &self.upstream,
+            &self.downstream,
+            self.horizon,
+            &self.caps,
+            self.totals,
+            &mut out,
+        )
+        .map_err(|refusal| self.refused(refusal))?;
+        Ok((record, out))
+    }
+
+    pub fn refused(&self, refusal: Refusal) -> Refused {
+        Refused {
+            refusal,
+            cells: self.cells.len(),
+            caps: self.caps.len(),
+            lengths: Some(Lengths {
+                upstream: self.upstream.len(),
+                downstream: self.downstream.len(),
+                horizon: self.horizon,
+            }),
+        }
+    }
+}
