@@ -25,9 +25,6 @@ list_checks caps cells ups downs t out = cells_check cells ∷ horizon_check t �
 abbrev pub shape_checks : Road → ℕ → ℕ → ℕ → ℕ → ℕ → ℕ → List Check
 shape_checks r caps cells ups downs t out = road_checks r ++ list_checks caps cells ups downs t out
 
-unfoldable pub shape_refusal : Road → ℕ → ℕ → ℕ → ℕ → ℕ → ℕ → Outcome
-shape_refusal r caps cells ups downs t out = judge (shape_checks r caps cells ups downs t out)
-
 -- "forecast 1–11", with 20 before 9
 abbrev pub input_checks : Road → List ℕ → List ℕ → List ℕ → List ℕ → ℕ → ℕ → List Check
 input_checks r caps cells ups downs t out = shape_checks r (length caps) (length cells) (length ups) (length downs) t out ++ value_checks r cells ups downs

@@ -13,9 +13,7 @@ use Rattle.scheme.specs.ByFaces.{RunByFaces}
 use Rattle.scheme.specs.Settling.{after, settles, settle_steps, settle_cells, LeastStill}
 use Rattle.scheme.specs.declared.settling.Settled.{Settled}
 use Rattle.forecast.specs.declared.forecasting.Record.{Record}
-use Rattle.forecast.specs.Answers.{ForecastAnswer}
-use Rattle.refusal.specs.Answer as Forecast
-use Rattle.forecast.specs.Answers.{SettleAnswer}
+use Rattle.forecast.specs.Answers.{ForecastAnswer, SettleAnswer}
 use Rattle.refusal.specs.Answer.{Done, Refused}
 use Rattle.forecast.specs.Chain.{Call, Site, answer_to, output_of}
 
@@ -26,9 +24,6 @@ settle_list_checks caps cells t out = cells_check cells ∷ horizon_check t ∷ 
 -- checks 1 to 6, 8 and 20
 abbrev pub settle_shape_checks : Road → ℕ → ℕ → ℕ → ℕ → List Check
 settle_shape_checks r caps cells t out = road_checks r ++ settle_list_checks caps cells t out
-
-unfoldable pub settle_shape_refusal : Road → ℕ → ℕ → ℕ → ℕ → Outcome
-settle_shape_refusal r caps cells t out = judge (settle_shape_checks r caps cells t out)
 
 -- "settling 1–6 and 8–11", with 20 "after 8 and before 9" (document 02, E7)
 abbrev pub settle_checks : Road → List ℕ → List ℕ → ℕ → ℕ → ℕ → ℕ → List Check
@@ -116,7 +111,7 @@ pub record Settlement (r : Road) (caps cells : List ℕ) (up down t : ℕ) (next
   pub within : Below r.jam next
   -- "A settled state must then equal the full forecast", which is not refused; so does an unsettled one
   pub full : next ≡ full_cells r caps cells up down t
-  pub full_done : (d : Record) × (full_answer r caps cells up down t ≡ Forecast.Done d)
+  pub full_done : (d : Record) × (full_answer r caps cells up down t ≡ Done d)
 
 -- what the call promises: a the answer, out what the output held at entry, next what it holds at exit
 pub record Settles (r : Road) (caps cells : List ℕ) (up down t : ℕ) (out next : List ℕ) (a : SettleAnswer) : Type 0 where
