@@ -1,8 +1,10 @@
 // Candidate prediction: one row tried on estimates, for a filter that does not know its cell's mode.
-ghost use Rattle.std.specs.Prelude.{◌≡◌, ◌≤◌, IfOk};
+ghost use Rattle.std.specs.Prelude.{◌≡◌, IfOk};
 ghost use Rattle.refusal.specs.Answer.{answer_of, judged_of};
+ghost use Rattle.modes.specs.Codes.{code_of};
 ghost use Rattle.candidate.specs.Candidate.{row_for, applied, bad_estimate, candidate_refusal, Candidates};
 
+use modes::Mode;
 use refusal::Refusal;
 use road::{AcceptedRoad, Road};
 use rows::WholeRow;
@@ -24,10 +26,8 @@ pub struct CandidateResult {
 
 impl CandidateRow {
     // Internal: the row of a mode on an accepted road. Its numbers are small enough that no float is rounded.
-    pub fn of(road: AcceptedRoad, mode: u8) -> CandidateRow
-        requires le_mode { 1 ≤ mode }
-        requires mode_bound { mode ≤ 7 }
-        ensures { result ≡ row_for road.road mode }
+    pub fn of(road: AcceptedRoad, mode: Mode) -> CandidateRow
+        ensures { result ≡ row_for road.road (code_of mode) }
     {
         let row = WholeRow::of(road, mode);
         CandidateRow {
@@ -62,9 +62,7 @@ fn judged(road: Road, mode: u8, left: f64, own: f64, right: f64) -> Result<Candi
     ensures row { IfOk result (λ row. row ≡ row_for road mode) }
 {
     let road = road.judged()?;
-    if mode < 1 || 7 < mode {
-        return Err(Refusal::Mode);
-    }
+    let mode = Mode::try_from(mode)?;
     let jam = road.road.jam;
     if bad_estimate(jam, left) {
         return Err(Refusal::Estimate(1));

@@ -2,7 +2,7 @@
 use Rattle.std.proofs.Common.{◌≡◌, ◌∙◌, Bool, true, false, refl, sym, ap}
 use mathlib.Core.Bool.{true≢false, false≢true}
 use Rattle.std.specs.Float.{float_is_finite}
-use lib.Ieee.{Float, nan, inf, fin, binary64, eq, ne, lt, of_bits}
+use lib.Ieee.{Float, nan, inf, fin, eq, ne, lt, of_bits}
 use Rattle.choice.specs.Choice.{or}
 use Rattle.floats.proofs.Within.{finite_known}
 use Rattle.station.specs.Station.{zero, bad_number}
