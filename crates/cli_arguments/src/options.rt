@@ -1,4 +1,5 @@
 // The arguments: [--lines] [--picture OUT.bmp] [FILE], after those of the script `welgadou`, if it starts the program.
+// What is read later is told by its place: without a heap there is nothing to keep its words in.
 use super::words;
 use printing::Form;
 use std::env::FillError;

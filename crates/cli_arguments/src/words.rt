@@ -1,4 +1,4 @@
-// The words of the arguments.
+// The words of the arguments, each read into a buffer: it need not be text, which is all that std's `args` gives.
 ghost use Rattle.io.specs.Counts.{IsPrefixLen};
 
 use printing::Page;

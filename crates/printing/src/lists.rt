@@ -2,7 +2,7 @@
 use super::page::{Form, Page};
 use std::fmt::Display;
 
-// The letter of a code.
+// The letter of a code. (A code, since the C interface has letters as bytes.)
 fn letter(code: u8) -> char {
     match code {
         0 => 'W',

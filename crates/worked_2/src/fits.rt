@@ -1,63 +1,67 @@
 // Fit tests: the state's own word, foreign words, and refusals with their places.
-use super::{forms, letters};
+use super::letters::{D, L, W, X, Y};
 use modes::FitAnswer;
-use printing::page;
-use printing::page::Page;
-use worked::few::CELLS;
-use worked::roads::A;
-use worked::{few, print, roads};
+use printing::Page;
+use road::Road;
+use worked::print;
+use worked::roads::{A, P_6};
 
-fn answered(page: &mut Page, answer: FitAnswer) {
-    match answer {
-        FitAnswer::Done(f) => {
-            if f.holds {
-                forms::say(page, forms::HOLDS, 0);
-            } else {
-                forms::say(page, forms::FAILS, f.face as u64);
-            }
-        }
-        FitAnswer::Refused(f) => {
-            print::refusal(page, f);
-        }
-    }
-}
-
-// A road, cells, the upstream end, and the word that the state is held to.
+// A name, a road, cells, the upstream end, and the word that the state is held to. The downstream end is empty.
 #[derive(Clone, Copy)]
-struct Case(u8, u8, u32, u8);
+struct Case(&'static str, Road, &'static [u32], u32, &'static [u8]);
 
-const COUNT: usize = 9;
-
-const CASES: [Case; COUNT] = [
-    Case(A, CELLS, 100, letters::DLWL),
-    Case(A, CELLS, 100, letters::DLWW),
-    Case(A, CELLS, 100, letters::WLWW),
-    Case(A, CELLS, 100, letters::DLW),
-    Case(A, CELLS, 100, letters::DLXL),
-    Case(A, CELLS, 100, letters::DWDL),
-    Case(A, CELLS, 100, letters::LLWL),
-    Case(roads::P_6, few::ONE_300, 0, letters::ONLY_D),
-    Case(A, few::ONE_1001, 0, letters::ONLY_Y),
+static CASES: [Case; 9] = [
+    Case(
+        "D L W L, the state's own",
+        A,
+        &[300, 150, 700],
+        100,
+        &[D, L, W, L],
+    ),
+    Case("D L W W", A, &[300, 150, 700], 100, &[D, L, W, W]),
+    Case("W L W W", A, &[300, 150, 700], 100, &[W, L, W, W]),
+    Case(
+        "of three letters for three cells",
+        A,
+        &[300, 150, 700],
+        100,
+        &[D, L, W],
+    ),
+    Case(
+        "with an unknown code at face 2",
+        A,
+        &[300, 150, 700],
+        100,
+        &[D, L, X, L],
+    ),
+    Case(
+        "D W D L, an illegal pair",
+        A,
+        &[300, 150, 700],
+        100,
+        &[D, W, D, L],
+    ),
+    Case(
+        "L L W L, an illegal pair",
+        A,
+        &[300, 150, 700],
+        100,
+        &[L, L, W, L],
+    ),
+    Case("on a road with p 6", P_6, &[300], 0, &[D]),
+    Case("of a cell above J and a bad word", A, &[1001], 0, &[Y]),
 ];
-
-// One fit test, with an empty downstream end.
-fn show(page: &mut Page, line: usize, road: u8, cells: u8, up: u32, word: u8) {
-    let xs = few::list(cells);
-    let ls = letters::word(word);
-    let n = few::count(cells);
-    let m = letters::count(word);
-    forms::say(page, line, 0);
-    answered(
-        page,
-        modes::fit(roads::road(road), &xs[..n], up, 0, &ls[..m]),
-    );
-    page::put(page, b'\n');
-}
 
 // The own word, foreign words, refusals.
 pub fn cases(page: &mut Page) {
-    for i in 0..COUNT {
-        let case = CASES[i];
-        show(page, forms::FITS + i, case.0, case.1, case.2, case.3);
+    for case in &CASES {
+        let Case(name, road, cells, up, word) = *case;
+        write!(page, "fit {name}");
+        match modes::fit(road, cells, up, 0, word) {
+            FitAnswer::Done(f) if f.holds => write!(page, ": all faces hold"),
+            FitAnswer::Done(f) => write!(page, ": does not hold at face {}", f.face),
+            FitAnswer::Refused(f) => print::refusal(page, f),
+        }
+        writeln!(page);
     }
 }

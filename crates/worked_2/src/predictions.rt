@@ -1,61 +1,45 @@
 // Row predictions: numerators below, at and above zero, and refusals with their places.
-use super::{forms, letters};
-use printing::lists::numerators;
-use printing::page;
-use printing::page::Page;
+use super::letters::{D, L, W};
+use printing::Page;
 use rows::PredictAnswer;
-use worked::few::EMPTY;
-use worked::{few, print, roads};
+use worked::roads::A;
+use worked::{lists, print};
 
-// One prediction on road A, with an empty downstream end, and what it left in the output.
-fn show(page: &mut Page, line: usize, cells: &[u32], up: u32, word: &[u8], out: &mut [i64]) {
-    forms::say(page, line, 0);
-    match rows::predict(roads::road(roads::A), cells, up, 0, word, out) {
-        PredictAnswer::Done => {
-            forms::say(page, forms::DONE, 0);
-        }
-        PredictAnswer::Refused(f) => {
-            print::refusal(page, f);
-        }
-    }
-    forms::say(page, forms::NUMERATORS, 0);
-    numerators(page, true, out);
-    page::put(page, b'\n');
-}
-
-// Cells, the upstream end, the word whose rows they are, and the places of the output.
+// A name, cells of road A, the upstream end, the word whose rows they are, and the places of the output. The downstream end
+// is empty.
 #[derive(Clone, Copy)]
-struct Case(u8, u32, u8, usize);
+struct Case(&'static str, &'static [u32], u32, &'static [u8], usize);
 
-const COUNT: usize = 8;
-
-const CASES: [Case; COUNT] = [
-    Case(few::CELLS, 100, letters::DLWL, 3),
-    Case(EMPTY, 0, letters::DW, 1),
-    Case(few::ONE_200, 0, letters::DW, 1),
-    Case(few::ONE_201, 0, letters::DW, 1),
-    Case(EMPTY, 0, letters::WD, 1),
-    Case(EMPTY, 0, letters::ONLY_D, 1),
-    Case(few::ONE_1001, 0, letters::DD, 1),
-    Case(EMPTY, 0, letters::DD, 2),
+static CASES: [Case; 8] = [
+    Case(
+        "of D L W L on 300 150 700",
+        &[300, 150, 700],
+        100,
+        &[D, L, W, L],
+        3,
+    ),
+    Case("of D W on an empty cell", &[0], 0, &[D, W], 1),
+    Case("of D W on a cell of 200", &[200], 0, &[D, W], 1),
+    Case("of D W on a cell of 201", &[201], 0, &[D, W], 1),
+    Case("of W D, an illegal pair", &[0], 0, &[W, D], 1),
+    Case("of one letter for one cell", &[0], 0, &[D], 1),
+    Case("of a cell above J", &[1001], 0, &[D, D], 1),
+    Case("with an output of two for one cell", &[0], 0, &[D, D], 2),
 ];
 
-// A prediction of short lists, with an output of 7s.
-fn short(page: &mut Page, line: usize, cells: u8, up: u32, word: u8, places: usize) {
-    let xs = few::list(cells);
-    let ls = letters::word(word);
-    let mut out = [7i64; 3];
-    let n = few::count(cells);
-    let m = letters::count(word);
-    if places <= 3 {
-        show(page, line, &xs[..n], up, &ls[..m], &mut out[..places]);
-    }
-}
-
-// The worked case, numerators of a single cell, refusals.
+// The worked case, numerators of a single cell, refusals: each with what it left in an output of 7s.
 pub fn cases(page: &mut Page) {
-    for i in 0..COUNT {
-        let case = CASES[i];
-        short(page, forms::ROWS + i, case.0, case.1, case.2, case.3);
+    for case in &CASES {
+        let Case(name, cells, up, word, places) = *case;
+        let mut out = [7; 3];
+        let out = lists::first(&mut out, places);
+        write!(page, "rows {name}");
+        match rows::predict(A, cells, up, 0, word, out) {
+            PredictAnswer::Done => write!(page, ": done"),
+            PredictAnswer::Refused(f) => print::refusal(page, f),
+        }
+        write!(page, ",");
+        page.numerators(out);
+        writeln!(page);
     }
 }

@@ -1,110 +1,154 @@
 // Station readings: the three kinds, their roundings, the edges of each refusal, and bad numbers in every place.
-use super::forms;
-use super::forms::{DENSITY, FLOW, SPEED, SPEED_OF_FLOW_1};
-use printing::page;
-use printing::page::Page;
+use printing::Page;
+use road::Road;
+use station::StationReading::{Density, FlowAndSpeed, Speed};
 use station::{StationAnswer, StationReading};
-use worked::roads::A;
-use worked::{print, roads};
+use worked::print;
+use worked::roads::{A, OTHER_WAVE, P_6, THIRDS};
 
-// A reading by its kind's line: of one number, or of a flow and then its speed.
-fn reading(kind: usize, x: f64, speed: f64) -> StationReading {
-    match kind {
-        DENSITY => StationReading::Density(x),
-        FLOW => StationReading::FlowAndSpeed { flow: x, speed },
-        SPEED_OF_FLOW_1 => StationReading::FlowAndSpeed {
-            flow: 1.0,
-            speed: x,
-        },
-        _ => StationReading::Speed(x),
-    }
-}
-
-// One reading: the bits of its estimate, or the refusal.
-fn show(page: &mut Page, kind: usize, line: usize, road: u8, x: f64, speed: f64) {
-    forms::say(page, kind);
-    page::put(page, b' ');
-    forms::say(page, line);
-    match station::station(roads::road(road), reading(kind, x, speed)) {
-        StationAnswer::Done(e) => {
-            print::bits(page, e.density);
-        }
-        StationAnswer::Refused(f) => {
-            print::refusal(page, f);
-        }
-    }
-    page::put(page, b'\n');
-}
-
-// A kind and its number, and after a flow its speed.
+// A name, a reading and its road.
 #[derive(Clone, Copy)]
-struct Case(usize, f64, f64);
+struct Case(&'static str, StationReading, Road);
 
-const COUNT: usize = 18;
-
-const CASES: [Case; COUNT] = [
-    Case(DENSITY, 1000.0, 0.0),
-    Case(DENSITY, 1000.0000000000001, 0.0),
-    Case(DENSITY, -0.0, 0.0),
-    Case(FLOW, 80.0, 0.8),
-    Case(FLOW, 10.0, 0.3),
-    Case(FLOW, 1.0, 5e-324),
-    Case(FLOW, 1e-300, 1e300),
-    Case(FLOW, -0.0, 1.0),
-    Case(FLOW, 0.0, 0.0),
-    Case(FLOW, 0.0, -0.0),
-    Case(SPEED, 0.0, 0.0),
-    Case(SPEED, -0.0, 0.0),
-    Case(SPEED, 0.2, 0.0),
-    Case(SPEED, 0.6, 0.0),
-    Case(SPEED, 0.7999999999999999, 0.0),
-    Case(SPEED, 0.8, 0.0),
-    Case(SPEED, 1.7e308, 0.0),
-    Case(SPEED, 0.1, 0.0),
+static CASES: [Case; 18] = [
+    Case("density 1000", Density(1000.0), A),
+    Case("density just above 1000", Density(1000.0000000000001), A),
+    Case("density -0.0", Density(-0.0), A),
+    Case(
+        "flow 80, speed 0.8 (100)",
+        FlowAndSpeed {
+            flow: 80.0,
+            speed: 0.8,
+        },
+        A,
+    ),
+    Case(
+        "flow 10, speed 0.3",
+        FlowAndSpeed {
+            flow: 10.0,
+            speed: 0.3,
+        },
+        A,
+    ),
+    Case(
+        "flow 1, speed 5e-324",
+        FlowAndSpeed {
+            flow: 1.0,
+            speed: 5e-324,
+        },
+        A,
+    ),
+    Case(
+        "flow 1e-300, speed 1e300 (0)",
+        FlowAndSpeed {
+            flow: 1e-300,
+            speed: 1e300,
+        },
+        A,
+    ),
+    Case(
+        "flow -0.0, speed 1",
+        FlowAndSpeed {
+            flow: -0.0,
+            speed: 1.0,
+        },
+        A,
+    ),
+    Case(
+        "flow 0, speed 0",
+        FlowAndSpeed {
+            flow: 0.0,
+            speed: 0.0,
+        },
+        A,
+    ),
+    Case(
+        "flow 0, speed -0.0",
+        FlowAndSpeed {
+            flow: 0.0,
+            speed: -0.0,
+        },
+        A,
+    ),
+    Case("speed 0 (1000)", Speed(0.0), A),
+    Case("speed -0.0 (1000)", Speed(-0.0), A),
+    Case("speed 0.2 (500)", Speed(0.2), A),
+    Case("speed 0.6 (250)", Speed(0.6), A),
+    Case("speed just below 0.8 (200)", Speed(0.7999999999999999), A),
+    Case("speed 0.8", Speed(0.8), A),
+    Case("speed 1.7e308", Speed(1.7e308), A),
+    Case("speed 0.1", Speed(0.1), A),
 ];
 
-// Readings on road A.
-pub fn cases(page: &mut Page) {
-    for i in 0..COUNT {
-        let case = CASES[i];
-        show(page, case.0, forms::READINGS + i, A, case.1, case.2);
+// Speeds on other roads, the last of which is refused.
+static OTHER_ROADS: [Case; 3] = [
+    Case("speed 0.3 on D 5, p 2, q 3, C 600", Speed(0.3), OTHER_WAVE),
+    Case(
+        "speed just below 1/3 on D 3, p q 1, J 2",
+        Speed(0.3333333333333333),
+        THIRDS,
+    ),
+    Case("speed not a number on p 6", Speed(f64::NAN), P_6),
+];
+
+// The numbers that no place takes.
+static BAD: [(&str, f64); 5] = [
+    ("not a number", f64::NAN),
+    ("-1", -1.0),
+    ("-5e-324", -5e-324),
+    ("infinite", f64::INFINITY),
+    ("minus infinite", f64::NEG_INFINITY),
+];
+
+// One reading: the bits of its estimate, or the refusal.
+fn show(page: &mut Page, reading: StationReading, road: Road) {
+    match station::station(road, reading) {
+        StationAnswer::Done(e) => print::bits(page, e.density),
+        StationAnswer::Refused(f) => print::refusal(page, f),
+    }
+    writeln!(page);
+}
+
+// The cases of a list.
+fn all(page: &mut Page, cases: &[Case]) {
+    for case in cases {
+        let Case(name, reading, road) = *case;
+        write!(page, "station {name}");
+        show(page, reading, road);
     }
 }
 
 // A bad number in each place of each kind.
-fn bad(page: &mut Page, line: usize, x: f64) {
-    show(page, DENSITY, line, A, x, 0.0);
-    show(page, FLOW, line, A, x, 1.0);
-    show(page, SPEED_OF_FLOW_1, line, A, x, 0.0);
-    show(page, SPEED, line, A, x, 0.0);
-}
-
-// The numbers that no place takes. (A table holds neither a NaN nor an infinity.)
-pub fn bad_numbers(page: &mut Page) {
-    bad(page, forms::BAD, 0.0 / 0.0);
-    bad(page, forms::BAD + 1, -1.0);
-    bad(page, forms::BAD + 2, -5e-324);
-    bad(page, forms::BAD + 3, 1.0 / 0.0);
-    bad(page, forms::BAD + 4, -1.0 / 0.0);
-}
-
-// Speeds on other roads, the last of which is refused.
-pub fn other_roads(page: &mut Page) {
-    show(page, SPEED, forms::OTHER_ROADS, roads::OTHER_WAVE, 0.3, 0.0);
+fn bad(page: &mut Page, name: &str, x: f64) {
+    write!(page, "station density {name}");
+    show(page, Density(x), A);
+    write!(page, "station flow {name}");
     show(
         page,
-        SPEED,
-        forms::OTHER_ROADS + 1,
-        roads::THIRDS,
-        0.3333333333333333,
-        0.0,
+        FlowAndSpeed {
+            flow: x,
+            speed: 1.0,
+        },
+        A,
     );
+    write!(page, "station flow 1, speed {name}");
     show(
         page,
-        SPEED,
-        forms::OTHER_ROADS + 2,
-        roads::P_6,
-        0.0 / 0.0,
-        0.0,
+        FlowAndSpeed {
+            flow: 1.0,
+            speed: x,
+        },
+        A,
     );
+    write!(page, "station speed {name}");
+    show(page, Speed(x), A);
+}
+
+// Readings on road A, bad numbers, and readings on other roads.
+pub fn cases(page: &mut Page) {
+    all(page, &CASES);
+    for (name, x) in &BAD {
+        bad(page, name, *x);
+    }
+    all(page, &OTHER_ROADS);
 }
