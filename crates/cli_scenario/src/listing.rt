@@ -55,6 +55,7 @@ fn store_line(line: &[u8], key: Key, out: &mut [u64], filled: usize) -> usize
 
 // The values of all lines of a key, in their order, at the start of the list, as far as it goes; how many are stored. A
 // list longer than `out` is clipped. Of a text that `judge` finds fault with, a wrong value counts for none.
+// A length, and not the filled part: tried, and no clause on what the rest of `out` keeps (`Stored`) was proved of a part.
 pub fn values(text: &[u8], key: Key, out: &mut [u64]) -> usize
     ensures { Stored out.old out.new 0 (values_of key text.now) result }
 {
