@@ -7,7 +7,7 @@ use Rattle.road.specs.Ceilings.{divisor_ceiling}
 use Rattle.refusal.specs.Table.{check, judge}
 use Rattle.road.specs.Judgement.{Accepted, outside, road_checks}
 use Rattle.road.specs.declared.Road.{Road}
-use Rattle.refusal.specs.declared.Refusal.{Refusal}
+use Rattle.refusal.specs.Outcome.{Outcome}
 use Rattle.refusal.proofs.Table.{◌&◌}
 use Rattle.road.proofs.Acceptance.{accepted_by, road_passes}
 use Rattle.choice.proofs.Choice.{or_left, or_right, neither}
@@ -19,8 +19,8 @@ use Rattle.floats.proofs.Row.{row_exact}
 use Rattle.floats.proofs.Within.{within, finite_of_passes, passes_of_finite}
 use Rattle.floats.proofs.Sum.{add_plain}
 use Rattle.candidate.specs.declared.candidates.CandidateResult.{CandidateResult}
-use Rattle.candidate.specs.declared.candidates.CandidateAnswer.{CandidateAnswer}
-use Rattle.candidate.specs.declared.candidates.CandidateAnswer.TheVariants.{Done, Refused}
+use Rattle.candidate.specs.Answers.{CandidateAnswer}
+use Rattle.refusal.specs.Answer.{Done, Refused}
 use Rattle.rows.specs.Rows.{row_value}
 use Rattle.candidate.specs.Candidate.{EstimatePlaced}
 use Rattle.rows.specs.Coefficients.{left_coefficient, own_coefficient, right_coefficient, constant_of}
@@ -167,14 +167,14 @@ same_numerator e = ap (λ (s : CandidateResult). s.numerator) (same_result e)
 
 module _ (r : Road) (mode : ℕ) (left own right : Float) where
   -- refused: the number and place of the table
-  pub candidate_refused : (f : Refusal) → f ≡ C.candidate_refusal r mode left own right → (f.number ≡ 0 → ⊥)
+  pub candidate_refused : (f : Outcome) → f ≡ C.candidate_refusal r mode left own right → (f.number ≡ 0 → ⊥)
       → C.Candidates r mode left own right (Refused f)
   unfolding C.candidate_answer C.candidate_meaning
   candidate_refused f e n =
       let k = refuses (candidate_call r mode left own right) e n in
       record {
         answer = rw k.no (ap Refused e);
-        means = rw k.no (ap (λ (g : Refusal). C.meaning (Refused g)) e);
+        means = rw k.no (ap (λ (g : Outcome). C.meaning (Refused g)) e);
         judged = k.judged;
         row_whole = λ p q. absurd (true≢false (cc q));
         exact = λ p q. absurd (true≢false (cc q));

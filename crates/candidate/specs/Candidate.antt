@@ -6,14 +6,14 @@ use Rattle.choice.specs.Choice.{pick, or}
 use Rattle.refusal.specs.Table.{Check, check, judge, refused, Judged, unless_refused}
 use Rattle.road.specs.Judgement.{road_checks, outside, Accepted}
 use Rattle.road.specs.declared.Road.{Road}
-use Rattle.refusal.specs.declared.Refusal.{Refusal}
+use Rattle.refusal.specs.Outcome.{Outcome}
 use Rattle.floats.specs.Worth.{Worth, FiniteUpTo}
 use Rattle.rows.specs.Rows.{row_value}
 use Rattle.rows.specs.Coefficients.{left_coefficient, own_coefficient, right_coefficient, constant_of}
 use Rattle.candidate.specs.declared.candidates.CandidateRow.{CandidateRow}
 use Rattle.candidate.specs.declared.candidates.CandidateResult.{CandidateResult}
-use Rattle.candidate.specs.declared.candidates.CandidateAnswer.{CandidateAnswer}
-use Rattle.candidate.specs.declared.candidates.CandidateAnswer.TheVariants.{Done, Refused}
+use Rattle.candidate.specs.Answers.{CandidateAnswer}
+use Rattle.refusal.specs.Answer.{Done, Refused}
 
 -- "three float coefficients and a float constant, each exactly the whole number"
 unfoldable pub row_for : Road → ℕ → CandidateRow
@@ -54,7 +54,7 @@ estimate_checks r mode left own right = mode_check mode ∷ estimates_check r le
 abbrev pub candidate_checks : Road → ℕ → Float → Float → Float → List Check
 candidate_checks r mode left own right = road_checks r ++ estimate_checks r mode left own right
 
-unfoldable pub candidate_refusal : Road → ℕ → Float → Float → Float → Refusal
+unfoldable pub candidate_refusal : Road → ℕ → Float → Float → Float → Outcome
 candidate_refusal r mode left own right = judge (candidate_checks r mode left own right)
 
 -- the numerator that the row predicts
@@ -102,12 +102,12 @@ pub record EstimatePlaced (left own right : Bool) (place : ℕ) : Type 0 where
   pub third : place ≡ 3 → (left ≡ false) × (own ≡ false) × (right ≡ true)
 
 -- the place of 14 among the three estimates
-abbrev pub CandidatePlaced : Road → Float → Float → Float → Refusal → Type 0
+abbrev pub CandidatePlaced : Road → Float → Float → Float → Outcome → Type 0
 CandidatePlaced r left own right f =
     f.number ≡ 14 → EstimatePlaced (bad_estimate r.jam left) (bad_estimate r.jam own) (bad_estimate r.jam right) f.place
 
 -- demand 1 of a refusal, of the candidate's checks
-abbrev pub CandidateJudged : Road → ℕ → Float → Float → Float → Refusal → Type 0
+abbrev pub CandidateJudged : Road → ℕ → Float → Float → Float → Outcome → Type 0
 CandidateJudged r mode left own right f =
     Judged (candidate_checks r mode left own right) (CandidateChecked r mode left own right) (CandidatePlaced r left own right) f
 

@@ -1,17 +1,14 @@
 -- What each check says where it does not refuse, and the other way round.
-use mathlib.Core.Path.{◌≡◌, ◌∙◌, refl}
-use mathlib.Core.Bool.{Bool, true, false, not}
+use mathlib.Core.Path.{◌≡◌, refl}
+use mathlib.Core.Bool.{true, false, not}
 use mathlib.Core.List.{List, [], ◌∷◌}
-use Prim.Native.Nat.{ℕ, zero, suc, ◌+◌, ◌≤◌, zero-le}
-use lib.Dec.{eqb, ltb}
+use Prim.Native.Nat.{ℕ, zero, suc, ◌+◌, ◌≤◌, ◌<◌, zero-le}
+use lib.Dec.{eqb}
 use lib.ListN.{get_or}
-use borrow.Author.Tests.{eqb-true, eq-eqb, ltb-false, le-ltb, not-false}
+use borrow.Author.Tests.{eqb-true, eq-eqb, ltb-false, le-ltb, lt-ltb, not-false}
 use Rattle.road.specs.Ceilings.{cells_ceiling, horizon_ceiling}
 use Rattle.road.specs.declared.Road.{Road}
-use Rattle.choice.specs.Choice.{pick}
-use Rattle.refusal.specs.Table.{refused, or_if}
-use Rattle.refusal.specs.declared.Refusal.{Refusal}
-use Rattle.refusal.proofs.Table.{next_check, ◌&◌}
+use Rattle.refusal.proofs.Table.{◌&◌}
 use Rattle.choice.proofs.Choice.{or_left, or_right, neither}
 use Rattle.road.proofs.Ranges.{from_low, to_high, inside}
 use Rattle.checks.specs.Lists.{bad_cells, bad_horizon, bad_ends, bad_output, bad_caps}
@@ -66,14 +63,13 @@ one_below : {j x : ℕ} → x ≤ j → (i : ℕ) → get_or (x ∷ []) i 0 ≤ 
 one_below h zero = h
 one_below h (suc i) = zero-le
 
--- one end, tested alone: its check is that of the list that holds it alone
-pub one_end : (n j x : ℕ) {f g : Refusal} {c : Bool} → f ≡ g → c ≡ ltb j x → or_if f c n 0 ≡ or_if g (any_above j (x ∷ [])) n (first_index_above j (x ∷ []))
-unfolding or_if first_index_above
-one_end n j x {g = g} e q = next_check n e q refl ∙ by_test (ltb j x)
-  where
-    by_test : (b : Bool) → pick (eqb g.number 0) (pick b (refused n 0) g) g ≡ pick (eqb g.number 0) (pick (ltb (pick b 0 1) 1) (refused n (pick b 0 1)) g) g
-    by_test true = refl
-    by_test false = refl
+-- one end, tested alone: what its check says, which is that of the list that holds it alone
+pub end_above : {j x : ℕ} → j < x → (any_above j (x ∷ []) ≡ true) × (first_index_above j (x ∷ []) ≡ 0)
+unfolding first_index_above
+end_above {j} {x} h = rw (lt-ltb j x h) (refl, refl)
+
+pub end_within : {j x : ℕ} → x ≤ j → any_above j (x ∷ []) ≡ false
+end_within {j} {x} h = none_above j (x ∷ []) (one_below h)
 
 -- the checks of one end pair, where no density is above jam, with what is known of the checks below
 pub pair_passes : (r : Road) (cells : List ℕ) (up down : ℕ) → ((i : ℕ) → get_or cells i 0 ≤ r.jam) → up ≤ r.jam → down ≤ r.jam → {Below : Type 0} → Below

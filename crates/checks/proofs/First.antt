@@ -3,12 +3,14 @@ use mathlib.Core.Path.{◌≡◌, ◌∙◌, refl, sym, ap}
 use mathlib.Core.Bool.{true, false}
 use mathlib.Core.List.{List, [], ◌∷◌}
 use Prim.Native.Nat.{ℕ, zero, suc, ◌≤◌, ◌<◌, zero-le, suc-le-suc}
-use native.Mathlib.Nat.{not-suc-le-zero, le_of_suc-le-suc, le_refl, le_of_eq, lt_irrefl}
+use native.Mathlib.Nat.{not-suc-le-zero, le_of_suc-le-suc, le_refl, le_of_eq, le_of_lt, lt_irrefl}
 use native.Mathlib.Decide.{dec_lt}
 use native.Mathlib.Omega.{arith}
 use lib.ListN.{length, get_or, get_or-eq_default}
 use borrow.Author.Tests.{lt-ltb, le-ltb, ltb-true, ltb-false}
-use Rattle.checks.specs.Values.{first_index_above, any_above, FirstAbove}
+use Rattle.std.specs.Prelude.{Option, Some, None, MatchOption}
+use Rattle.std.specs.List.{AllWithin, HoldsAt}
+use Rattle.checks.specs.Values.{first_index_above, any_above, FirstAbove, FoundAbove}
 
 -- one density of the search, by its test
 first_above_head : (j x : ℕ) (xs : List ℕ) → j < x → first_index_above j (x ∷ xs) ≡ 0
@@ -48,6 +50,17 @@ searched j (x ∷ xs) = by_density (dec_lt j x) (searched j xs)
         low : (i : ℕ) → i < suc (first_index_above j xs) → get_or (x ∷ xs) i 0 ≤ j
         low zero h = omega arith
         low (suc i) h = rest.low i (le_of_suc-le-suc h)
+
+-- what a search by tests has found is the first
+pub found_above : (j : ℕ) (xs : List ℕ) (found : Option ℕ)
+    → MatchOption found (AllWithin (λ x. x ≤ j) xs 0 (length xs)) (λ i. (i < length xs) × HoldsAt (λ x. j < x) xs i × AllWithin (λ x. x ≤ j) xs 0 i)
+    → FoundAbove j xs found
+found_above j xs None low =
+    le-ltb (first_index_above j xs) (length xs)
+    (le_of_eq (sym (first_is j xs (length xs) (le_refl (length xs)) (λ i l. low i 0 zero-le l) (λ l. absurd (lt_irrefl (length xs) l)))))
+found_above j xs (Some i) (l, high, low) =
+    let e = first_is j xs i (le_of_lt l) (λ k h. low k 0 zero-le h) (λ h. high 0) in
+    (rw e (lt-ltb i (length xs) l), sym e)
 
 -- a place that is reported is above jam, and no earlier one is
 pub first_above : (j : ℕ) (xs : List ℕ) → any_above j xs ≡ true → FirstAbove j xs (first_index_above j xs)

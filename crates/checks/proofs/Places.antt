@@ -4,7 +4,7 @@ use mathlib.Core.Bool.{true}
 use mathlib.Core.List.{List}
 use Prim.Native.Nat.{ℕ, ◌+◌}
 use Rattle.road.specs.declared.Road.{Road}
-use Rattle.refusal.specs.declared.Refusal.{Refusal}
+use Rattle.refusal.specs.Outcome.{Outcome}
 use Rattle.checks.specs.Values.{first_index_above, any_above, FirstAbove}
 use Rattle.checks.specs.Places.{Placed}
 use Rattle.checks.proofs.First.{first_above}
@@ -14,7 +14,7 @@ listed : (j : ℕ) (xs : List ℕ) {q : ℕ} → (any_above j xs ≡ true) × (f
 listed j xs (holds, same) = rw same at (first_above j xs holds)
 
 -- the places of a call with these checks, as they were returned: the cells are numbered from 1, the ends from 0
-pub values_placed : (r : Road) (cells ups downs : List ℕ) (f : Refusal)
+pub values_placed : (r : Road) (cells ups downs : List ℕ) (f : Outcome)
     → (f.number ≡ 9 → (any_above r.jam cells ≡ true) × (first_index_above r.jam cells + 1 ≡ f.place))
     → (f.number ≡ 10 → (any_above r.jam ups ≡ true) × (first_index_above r.jam ups ≡ f.place))
     → (f.number ≡ 11 → (any_above r.jam downs ≡ true) × (first_index_above r.jam downs ≡ f.place)) → Placed r cells ups downs f

@@ -4,8 +4,8 @@ use mathlib.Core.Bool.{Bool, false}
 use mathlib.Core.List.{List, [], ◌∷◌, ◌++◌}
 use Prim.Native.Nat.{ℕ, ◌≤◌}
 use lib.ListN.{length}
-use Rattle.refusal.specs.Table.{Check, check, judge_below, judge}
-use Rattle.refusal.specs.declared.Refusal.{Refusal}
+use Rattle.refusal.specs.Table.{Check, check, passed, judge_below, judge}
+use Rattle.refusal.specs.Outcome.{Outcome}
 use Rattle.refusal.proofs.Table.{Passing, ◌&◌, none_holds, failing_left_out}
 use Rattle.refusal.proofs.Parts.{part_stands, part_goes_on, parts_pass}
 use Rattle.refusal.proofs.Calls.{Call}
@@ -26,7 +26,7 @@ use Rattle.checks.proofs.Places.{values_placed}
 module _ (r : Road) (n : ℕ) where
   module _ (bad : Bool) where
     -- a refusal of it stands
-    pub shape_stands : (rest : List Check) (f : Refusal) → f ≡ state_shape_refusal r n bad → (f.number ≡ 0 → ⊥)
+    pub shape_stands : (rest : List Check) (f : Outcome) → f ≡ state_shape_refusal r n bad → (f.number ≡ 0 → ⊥)
         → f ≡ judge (state_shape_checks r n (check bad 8 0 ∷ []) ++ rest)
     unfolding state_shape_refusal
     shape_stands = part_stands (state_shape_checks r n (check bad 8 0 ∷ []))
@@ -36,7 +36,7 @@ module _ (r : Road) (n : ℕ) where
     unfolding state_shape_refusal
     shape_short e = cells_high n (none_holds (state_shape_checks r n (check bad 8 0 ∷ [])) tt e 5)
 
-    pub shape_goes_on : (rest : List Check) {f g : Refusal} → f ≡ state_shape_refusal r n bad → g ≡ judge_below f rest
+    pub shape_goes_on : (rest : List Check) {f g : Outcome} → f ≡ state_shape_refusal r n bad → g ≡ judge_below f rest
         → g ≡ judge (state_shape_checks r n (check bad 8 0 ∷ []) ++ rest)
     unfolding state_shape_refusal
     shape_goes_on = part_goes_on (state_shape_checks r n (check bad 8 0 ∷ []))
@@ -57,6 +57,18 @@ module _ (r : Road) (cells : List ℕ) (up down : ℕ) where
     up_below = all_below r.jam (up ∷ []) ten 0;
     down_below = all_below r.jam (down ∷ []) eleven 0;
   }
+
+  pub state_of : (bad : Bool) → (state_refusal r cells up down bad).number ≡ 0 → StateChecked r cells up down
+  unfolding state_refusal
+  state_of bad e =
+      let no = none_holds (state_checks r cells up down (check bad 8 0 ∷ [])) tt e in
+      state_checked (no 1) (no 2) (no 3) (no 4) (no 5) (no 9) (no 10) (no 11)
+
+  -- the shape passed, and then the pair
+  module _ (bad : Bool) (shape : passed ≡ state_shape_refusal r (length cells) bad) where
+    pub below_shape : {o : Outcome} → o ≡ judge (pair_checks r cells up down) → o ≡ state_refusal r cells up down bad
+    unfolding state_shape_refusal state_refusal
+    below_shape = part_goes_on (state_shape_checks r (length cells) (check bad 8 0 ∷ [])) (pair_checks r cells up down) shape
 
   -- and the other way round, with what is known of the call's outputs and of the checks below
   pub state_passes : StateChecked r cells up down → (outputs rest : List Check) → Passing outputs → Passing rest

@@ -4,3 +4,4 @@ pub mod Values
 pub mod Checks
 pub mod Places
 pub mod State
+pub mod Judged

@@ -1,7 +1,7 @@
 -- The judgement of a state, which reading, ranking, fit test and row prediction share: the checks of a road, of its cells and of one end pair, beside that of the call's outputs.
 use Rattle.std.specs.Prelude.{Bool, List, [], ◌∷◌, ◌++◌, ℕ, ◌≤◌, length, get_or}
 use Rattle.refusal.specs.Table.{Check, check, judge}
-use Rattle.refusal.specs.declared.Refusal.{Refusal}
+use Rattle.refusal.specs.Outcome.{Outcome}
 use Rattle.road.specs.Ceilings.{cells_ceiling}
 use Rattle.road.specs.Judgement.{road_checks, Accepted}
 use Rattle.road.specs.declared.Road.{Road}
@@ -16,10 +16,10 @@ abbrev pub state_checks : Road → List ℕ → ℕ → ℕ → List Check → L
 state_checks r cells up down outputs = state_shape_checks r (length cells) outputs ++ pair_checks r cells up down
 
 -- what they come to, where it is known whether the outputs are bad
-unfoldable pub state_shape_refusal : Road → ℕ → Bool → Refusal
+unfoldable pub state_shape_refusal : Road → ℕ → Bool → Outcome
 state_shape_refusal r n bad = judge (state_shape_checks r n (check bad 8 0 ∷ []))
 
-unfoldable pub state_refusal : Road → List ℕ → ℕ → ℕ → Bool → Refusal
+unfoldable pub state_refusal : Road → List ℕ → ℕ → ℕ → Bool → Outcome
 state_refusal r cells up down bad = judge (state_checks r cells up down (check bad 8 0 ∷ []))
 
 -- what a state is that they let through

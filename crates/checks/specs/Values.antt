@@ -1,16 +1,11 @@
 -- What the checks "Values" of the refusal table test: a density above J, and the place of the first such.
-use Rattle.std.specs.Prelude.{◌≡◌, Bool, List, [], ◌∷◌, ℕ, suc, ◌≤◌, ◌<◌, ltb, length, get_or}
+use Rattle.std.specs.Prelude.{◌≡◌, Bool, true, false, List, [], ◌∷◌, Option, MatchOption, ℕ, suc, ◌≤◌, ◌<◌, ltb, length, get_or}
 use Rattle.choice.specs.Choice.{pick}
 
 -- the place, from 0, of the first density above j; the number of densities where none is
 unfoldable pub first_index_above : ℕ → List ℕ → ℕ
 first_index_above j [] = 0
 first_index_above j (x ∷ xs) = pick (ltb j x) 0 (suc (first_index_above j xs))
-
--- what a search for it hands back, which lies in the list or at its end
-pub record Found (j : ℕ) (xs : List ℕ) (place : ℕ) : Type 0 where
-  pub at : place ≡ first_index_above j xs
-  pub inside : place ≤ length xs
 
 -- some density is above j
 abbrev pub any_above : ℕ → List ℕ → Bool
@@ -20,3 +15,7 @@ any_above j xs = ltb (first_index_above j xs) (length xs)
 pub record FirstAbove (j : ℕ) (xs : List ℕ) (place : ℕ) : Type 0 where
   pub above : j < get_or xs place 0
   pub earlier : (i : ℕ) → i < place → get_or xs i 0 ≤ j
+
+-- what a search for the first such hands back: its place, or none where no density is above j
+abbrev pub FoundAbove : ℕ → List ℕ → Option ℕ → Type 0
+FoundAbove j xs found = MatchOption found (any_above j xs ≡ false) (λ place. (any_above j xs ≡ true) × (place ≡ first_index_above j xs))

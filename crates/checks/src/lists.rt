@@ -8,7 +8,7 @@ use road::Road;
 pub fn bad_cells(n: usize) -> bool
     ensures { result ≡ bad_cells n }
 {
-    choice::either(n < 1, (Road::CELLS as usize) < n)
+    n < 1 || (Road::CELLS as usize) < n
 }
 
 // Internal: 6, the horizon is above its ceiling.
@@ -22,7 +22,7 @@ pub fn bad_horizon(horizon: u32) -> bool
 pub fn bad_ends(horizon: u32, ups: usize, downs: usize) -> bool
     ensures { result ≡ bad_ends horizon ups downs }
 {
-    choice::either(ups != horizon as usize, downs != horizon as usize)
+    ups != horizon as usize || downs != horizon as usize
 }
 
 // Internal: 8, an output's length differs from its call's.
@@ -36,5 +36,5 @@ pub fn bad_output(expected: usize, given: usize) -> bool
 pub fn bad_caps(cells: usize, caps: usize) -> bool
     ensures { result ≡ bad_caps cells caps }
 {
-    if caps == 0 { true } else { caps - 1 != cells }
+    caps == 0 || caps - 1 != cells
 }

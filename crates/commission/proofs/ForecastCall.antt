@@ -13,7 +13,7 @@ use Rattle.scheme.specs.Rounded.{round_run, entered, left}
 use Rattle.scheme.proofs.Parts.{run_parts, entered_parts, left_parts}
 use Rattle.scheme.specs.ByFaces.{RunByFaces}
 use Rattle.scheme.specs.declared.many_steps.Totals.{Totals}
-use Rattle.forecast.specs.declared.forecasting.ForecastAnswer.{ForecastAnswer}
+use Rattle.forecast.specs.Answers.{ForecastAnswer}
 use Rattle.forecast.specs.Forecast.{own_of, increased, forecast_checks, forecast_refusal, forecast_answer, forecast_cells, Meaning, meaning, forecast_meaning, Fits, Demand3}
 use Rattle.forecast.specs.Chain.{after_call}
 use Rattle.forecast.proofs.Chain.{feeds}

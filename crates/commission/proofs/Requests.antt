@@ -9,7 +9,7 @@ use lib.Ieee.{Float, fin, round, sum, add, mul, div, lt, eq, le, ne, of_int, of_
 use Rattle.choice.specs.Choice.{pick}
 use Rattle.refusal.specs.Table.{check, judge, or_if}
 use Rattle.road.specs.Judgement.{road_checks, road_refusal}
-use Rattle.refusal.specs.declared.Refusal.{Refusal}
+use Rattle.refusal.specs.Outcome.{Outcome}
 use Rattle.flux.specs.Face.{sending, receiving, numerator, units, scaled, in_w, in_l, letter}
 use Rattle.checks.specs.Values.{first_index_above}
 use Rattle.scheme.specs.Advance.{ahead, advance, outflow, entering, leaving, stepped}
@@ -29,12 +29,12 @@ use Rattle.nearest.specs.Nearest.{alters, searched, change, inserted, ranked_to,
 use Rattle.station.specs.Station.{whole, speed_density, estimate_of, bad_number, bad_given, too_fast, bad_result, station_refusal, station_answer}
 use Rattle.station.specs.declared.stations.StationReading.{StationReading}
 use Rattle.station.specs.declared.stations.StationReading.TheVariants.{Density, FlowAndSpeed, Speed}
-use Rattle.station.specs.declared.stations.StationAnswer.TheVariants.{Done, Refused}
+use Rattle.refusal.specs.Answer.{Done, Refused}
 use Rattle.commission.specs.Starred.{road_a}
 use Rattle.commission.specs.Requests.{fifth, three_fifths, four_fifths, gives, gives_refusal, Requested}
 
 -- E1: what the checks come to, and the answer, once each check's test is known. The tests are worked first, since the table asks for each many times
-tests : Bool → Bool → Bool → Refusal
+tests : Bool → Bool → Bool → Outcome
 tests given fast outside = judge (road_checks road_a ++ (check given 16 0 ∷ check fast 17 0 ∷ check outside 18 0 ∷ []))
 
 by_tests : (x : StationReading) {given fast outside : Bool} {density : Float}

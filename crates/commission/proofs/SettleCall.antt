@@ -12,7 +12,7 @@ use Rattle.scheme.specs.Settling.{settle_cells}
 use Rattle.scheme.specs.declared.many_steps.Totals.{Totals}
 use Rattle.forecast.specs.Settle.{settle_checks, settle_refusal, settle_answer, settle_output, Meaning, meaning, settle_meaning, Settlement}
 use Rattle.forecast.specs.ForEver.{site_after}
-use Rattle.forecast.specs.declared.settling.SettleAnswer.{SettleAnswer}
+use Rattle.forecast.specs.Answers.{SettleAnswer}
 use Rattle.commission.specs.Outcome.{Outcome}
 use Rattle.commission.specs.SettleCall.{CalledSettle, settle, welgadou_settle, AcceptedSettling, settle_call_of, SettlingMade}
 use Rattle.commission.specs.Table.{cells, horizon, output, caps, cell, up, down, AllNamed}

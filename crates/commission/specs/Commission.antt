@@ -17,7 +17,7 @@ use Rattle.scheme.specs.Exact.{exact_step, exact_run}
 use Rattle.scheme.specs.Settling.{still, after}
 use Rattle.scheme.specs.declared.many_steps.Totals.{Totals}
 use Rattle.forecast.specs.declared.forecasting.Record.{Record}
-use Rattle.forecast.specs.declared.forecasting.ForecastAnswer.TheVariants as Forecast
+use Rattle.refusal.specs.Answer as Forecast
 use Rattle.forecast.specs.Forecast.{forecast_answer, forecast_cells}
 use Rattle.forecast.specs.Settle.{PairByFaces}
 use Rattle.forecast.specs.Chain.{after_call}
@@ -30,9 +30,9 @@ use Rattle.modes.specs.Modes.{modes_of}
 use Rattle.rows.specs.Rows.{row_value, row_numerators}
 use Rattle.rows.specs.SevenModes.{SevenModes}
 use Rattle.rows.specs.Coefficients.{left_coefficient, own_coefficient, right_coefficient, constant_of}
-use Rattle.modes.specs.declared.fitting.FitAnswer.{FitAnswer}
+use Rattle.modes.specs.Answers.{FitAnswer}
 use Rattle.modes.specs.Fit.{all_letters_hold, Fits, AnswersFit}
-use Rattle.modes.specs.declared.reading.ReadAnswer.TheVariants.{Done}
+use Rattle.refusal.specs.Answer.{Done}
 use Rattle.modes.specs.declared.reading.StateReading.{StateReading}
 use Rattle.modes.specs.Reading.{count_of, queued_of, ReadChecked, Reads}
 use Rattle.counting.specs.LegalWordsCounted.{legal_words, StandsAt}

@@ -12,23 +12,23 @@ use Rattle.scheme.specs.Rounded.{open_caps}
 use Rattle.scheme.specs.declared.many_steps.Totals.{Totals}
 use Rattle.forecast.specs.Forecast.{forecast_answer}
 use Rattle.forecast.specs.Settle.{settle_refusal, settle_answer}
-use Rattle.forecast.specs.declared.forecasting.ForecastAnswer.TheVariants as Forecast
-use Rattle.forecast.specs.declared.settling.SettleAnswer.TheVariants as Settle
+use Rattle.refusal.specs.Answer as Forecast
+use Rattle.refusal.specs.Answer as Settle
 use Rattle.modes.specs.Reading.{read_answer}
 use Rattle.modes.specs.Fit.{fit_answer}
 use Rattle.rows.specs.Prediction.{predict_answer}
 use Rattle.candidate.specs.Candidate.{candidate_refusal, candidate_answer}
 use Rattle.counting.specs.Count.{count_answer}
-use Rattle.modes.specs.declared.reading.ReadAnswer.TheVariants as Read
-use Rattle.modes.specs.declared.fitting.FitAnswer.TheVariants as Fit
-use Rattle.rows.specs.declared.prediction.PredictAnswer.TheVariants as Predict
-use Rattle.candidate.specs.declared.candidates.CandidateAnswer.TheVariants as Candidate
-use Rattle.counting.specs.declared.counting.CountAnswer.TheVariants as Count
+use Rattle.refusal.specs.Answer as Read
+use Rattle.refusal.specs.Answer as Fit
+use Rattle.refusal.specs.Answer as Predict
+use Rattle.refusal.specs.Answer as Candidate
+use Rattle.refusal.specs.Answer as Count
 use Rattle.station.specs.Station.{whole, station_answer}
 use Rattle.station.specs.declared.stations.StationReading.TheVariants.{Density, FlowAndSpeed, Speed}
-use Rattle.station.specs.declared.stations.StationAnswer.TheVariants as Station
+use Rattle.refusal.specs.Answer as Station
 use Rattle.nearest.specs.Nearest.{nearest_answer}
-use Rattle.nearest.specs.declared.ranking.NearestAnswer.TheVariants as Nearest
+use Rattle.refusal.specs.Answer as Nearest
 use Rattle.welgadou.specs.Level2.{CandidatePredicted}
 use Rattle.commission.specs.Starred.{road_a, totals, none, three}
 use Rattle.commission.specs.Requests.{four_fifths}

@@ -11,21 +11,21 @@ use Rattle.scheme.specs.Rounded.{open_caps, round_step}
 use Rattle.scheme.specs.Exact.{exact_step}
 use Rattle.scheme.specs.Word.{word_of}
 use Rattle.scheme.specs.declared.many_steps.Totals.{Totals}
-use Rattle.forecast.specs.declared.forecasting.ForecastAnswer.{ForecastAnswer}
-use Rattle.forecast.specs.declared.forecasting.ForecastAnswer.TheVariants as Forecast
+use Rattle.forecast.specs.Answers.{ForecastAnswer}
+use Rattle.refusal.specs.Answer as Forecast
 use Rattle.forecast.specs.Forecast.{forecast_answer, forecast_cells}
-use Rattle.forecast.specs.declared.settling.SettleAnswer.{SettleAnswer}
-use Rattle.forecast.specs.declared.settling.SettleAnswer.TheVariants as Settle
+use Rattle.forecast.specs.Answers.{SettleAnswer}
+use Rattle.refusal.specs.Answer as Settle
 use Rattle.forecast.specs.Settle.{settle_answer, settle_output, full_cells}
 use Rattle.forecast.specs.Chain.{Call, Site, after_all}
 use Rattle.modes.specs.Reading.{read_answer}
-use Rattle.modes.specs.declared.reading.ReadAnswer.TheVariants as Read
+use Rattle.refusal.specs.Answer as Read
 use Rattle.modes.specs.declared.reading.StateReading.{StateReading}
 use Rattle.nearest.specs.Nearest.{Entry, ranking}
 use Rattle.station.specs.Station.{whole, estimate_of, station_answer}
 use Rattle.station.specs.declared.stations.StationReading.{StationReading}
 use Rattle.station.specs.declared.stations.StationReading.TheVariants.{Density, FlowAndSpeed, Speed}
-use Rattle.station.specs.declared.stations.StationAnswer.TheVariants.{Done, Refused}
+use Rattle.refusal.specs.Answer.{Done, Refused}
 use Rattle.rows.specs.Rows.{row_numerators}
 use Rattle.commission.specs.Starred.{road_a, totals, none, three}
 

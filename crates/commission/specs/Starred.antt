@@ -10,8 +10,8 @@ use Rattle.forecast.specs.Settle as Settle
 use Rattle.modes.specs.Reading.{read_letters, read_modes}
 use Rattle.rows.specs.Prediction.{predicted}
 use Rattle.counting.specs.Count.{count_answer}
-use Rattle.counting.specs.declared.counting.CountAnswer.{CountAnswer}
-use Rattle.counting.specs.declared.counting.CountAnswer.TheVariants.{Done}
+use Rattle.counting.specs.Answers.{CountAnswer}
+use Rattle.refusal.specs.Answer.{Done}
 
 -- Road A: J 1000, C 200, D 5, p 4, q 1
 abbrev pub road_a : Road

@@ -1,12 +1,12 @@
 -- The station reading among the public calls: the numbers of its checks, what it did with any input, what it returned, and what it made of an accepted one.
 use Rattle.std.specs.Prelude.{◌≡◌, List, [], ◌∷◌, ℕ, Float}
 use Rattle.refusal.specs.Table.{refused}
-use Rattle.refusal.specs.declared.Refusal.{Refusal}
+use Rattle.refusal.specs.Outcome.{Outcome}
 use Rattle.road.specs.declared.Road.{Road}
 use Rattle.station.specs.declared.stations.StationReading.{StationReading}
 use Rattle.station.specs.declared.stations.Estimate.{Estimate}
-use Rattle.station.specs.declared.stations.StationAnswer.{StationAnswer}
-use Rattle.station.specs.declared.stations.StationAnswer.TheVariants.{Done}
+use Rattle.station.specs.Answers.{StationAnswer}
+use Rattle.refusal.specs.Answer.{Done}
 use Rattle.station.specs.Station.{station_checks, meaning, StationChecked, Stations}
 use Rattle.welgadou.specs.Stations.{StationEstimated}
 use Rattle.commission.specs.Outcome.{Outcome}
@@ -17,7 +17,7 @@ abbrev pub station_numbers : List ℕ
 station_numbers = 1 ∷ 2 ∷ 3 ∷ 4 ∷ 16 ∷ 17 ∷ 18 ∷ []
 
 -- what came of it: f the refusal that came back
-abbrev pub station_outcome : Road → StationReading → Refusal → Type 0 → Type 0 → Outcome
+abbrev pub station_outcome : Road → StationReading → Outcome → Type 0 → Type 0 → Outcome
 station_outcome r x f Kept Made = record {
   checks = station_checks r x;
   numbers = station_numbers;

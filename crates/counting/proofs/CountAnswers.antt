@@ -4,14 +4,14 @@ use mathlib.Core.Bool.{true≢false}
 use Prim.Native.Nat.{ℕ, ◌≤◌}
 use borrow.Author.Tests.{ltb-false, le-ltb}
 use Rattle.road.specs.Ceilings.{count_ceiling}
-use Rattle.refusal.specs.declared.Refusal.{Refusal}
+use Rattle.refusal.specs.Outcome.{Outcome}
 use Rattle.refusal.proofs.Table.{◌&◌, no_place}
 use Rattle.refusal.proofs.Calls.{Call, refuses, accepts}
 use Rattle.counting.specs.WordCount.{word_count}
 use Rattle.counting.specs.Count.{count_checks, count_refusal, count_answer, count_meaning, meaning, CountsWords}
 use Rattle.counting.specs.declared.counting.WordCount.{WordCount}
-use Rattle.counting.specs.declared.counting.CountAnswer.{CountAnswer}
-use Rattle.counting.specs.declared.counting.CountAnswer.TheVariants.{Done, Refused}
+use Rattle.counting.specs.Answers.{CountAnswer}
+use Rattle.refusal.specs.Answer.{Done, Refused}
 use Rattle.counting.proofs.WordList.{words_counted}
 
 -- what an accepted answer carries is what it says
@@ -30,13 +30,13 @@ module _ (n : ℕ) where
     passes = λ h. le-ltb count_ceiling n h & tt;
   }
 
-  pub refused : (f : Refusal) → f ≡ count_refusal n → (f.number ≡ 0 → ⊥) → CountsWords n (Refused f)
+  pub refused : (f : Outcome) → f ≡ count_refusal n → (f.number ≡ 0 → ⊥) → CountsWords n (Refused f)
   unfolding count_answer count_meaning
   refused f e h =
       let k = refuses count_call e h in
       record {
         answer = rw k.no (ap Refused e);
-        means = rw k.no (ap (λ (g : Refusal). meaning (Refused g)) e);
+        means = rw k.no (ap (λ (g : Outcome). meaning (Refused g)) e);
         judged = k.judged;
         counted = λ c q. absurd (true≢false (cc q));
       }

@@ -2,12 +2,12 @@
 use Rattle.std.specs.Prelude.{◌≡◌, List, [], ◌∷◌, ℕ, ◌≤◌, ltb}
 use Rattle.road.specs.Ceilings.{count_ceiling}
 use Rattle.refusal.specs.Table.{Check, check, judge, refused, Judged, unless_refused}
-use Rattle.refusal.specs.declared.Refusal.{Refusal}
+use Rattle.refusal.specs.Outcome.{Outcome}
 use Rattle.counting.specs.WordCount.{word_count}
 use Rattle.counting.specs.LegalWordsCounted.{LegalWordsCounted}
 use Rattle.counting.specs.declared.counting.WordCount.{WordCount}
-use Rattle.counting.specs.declared.counting.CountAnswer.{CountAnswer}
-use Rattle.counting.specs.declared.counting.CountAnswer.TheVariants.{Done, Refused}
+use Rattle.counting.specs.Answers.{CountAnswer}
+use Rattle.refusal.specs.Answer.{Done, Refused}
 
 -- 15: cells above its ceiling
 abbrev pub count_check : ℕ → Check
@@ -16,7 +16,7 @@ count_check n = check (ltb count_ceiling n) 15 0
 abbrev pub count_checks : ℕ → List Check
 count_checks n = count_check n ∷ []
 
-unfoldable pub count_refusal : ℕ → Refusal
+unfoldable pub count_refusal : ℕ → Outcome
 count_refusal n = judge (count_checks n)
 
 unfoldable pub count_answer : ℕ → CountAnswer
@@ -40,7 +40,7 @@ count_meaning n = record {
 }
 
 -- demand 1 of a refusal, of the one check: its place is 0, and none is refused exactly up to the ceiling
-abbrev pub CountJudged : ℕ → Refusal → Type 0
+abbrev pub CountJudged : ℕ → Outcome → Type 0
 CountJudged n f = Judged (count_checks n) (n ≤ count_ceiling) (λ g. g.place ≡ 0) f
 
 -- what the call promises

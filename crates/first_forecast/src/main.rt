@@ -1,43 +1,9 @@
 // The README's first forecast: one step of road A, printed.
 #![tactic(auto)]
 
-use forecast::ForecastAnswer;
 use road::Road;
 use scheme::{OPEN, Totals};
 use std::io;
-
-fn text(rt: &impl Print, s: &str) -> io::Result<()> {
-    rt.print(s)
-}
-
-fn number(rt: &impl Print, n: u64) -> io::Result<()> {
-    rt.print(n)
-}
-
-fn say_cell(rt: &impl Print, x: u32) -> io::Result<()> {
-    text(rt, " ")?;
-    number(rt, x as u64)
-}
-
-fn say_done(rt: &impl Print, entered: u64, left: u64, cells: &[u32; 3]) -> io::Result<()> {
-    text(rt, "entered ")?;
-    number(rt, entered)?;
-    text(rt, ", left ")?;
-    number(rt, left)?;
-    text(rt, ", cells")?;
-    say_cell(rt, cells[0])?;
-    say_cell(rt, cells[1])?;
-    say_cell(rt, cells[2])?;
-    text(rt, "\n")
-}
-
-fn say_refused(rt: &impl Print, refusal: u32, place: u32) -> io::Result<()> {
-    text(rt, "refused ")?;
-    number(rt, refusal as u64)?;
-    text(rt, " at ")?;
-    number(rt, place as u64)?;
-    text(rt, "\n")
-}
 
 fn main(rt: HostRuntime) -> io::Result<()> {
     let road = Road {
@@ -47,7 +13,7 @@ fn main(rt: HostRuntime) -> io::Result<()> {
         jam: 1000,
         critical: 200,
     };
-    let mut out = [0u32; 3];
+    let mut out = [0; 3];
     let totals = Totals {
         entered: 0,
         left: 0,
@@ -64,7 +30,14 @@ fn main(rt: HostRuntime) -> io::Result<()> {
         totals,
         &mut out,
     ) {
-        ForecastAnswer::Done(record) => say_done(&rt, record.own.entered, record.own.left, &out),
-        ForecastAnswer::Refused(refusal) => say_refused(&rt, refusal.number, refusal.place),
+        Ok(record) => {
+            let own = record.own;
+            print!(rt; "entered {}, left {}, cells", own.entered, own.left)?;
+            for x in &out {
+                print!(rt; " {x}")?;
+            }
+            println!(rt)
+        }
+        Err(refusal) => println!(rt; "refused {} at {}", refusal.number(), refusal.place()),
     }
 }

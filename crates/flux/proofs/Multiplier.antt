@@ -14,8 +14,8 @@ use Rattle.road.specs.Ceilings.{divisor_ceiling, jam_ceiling}
 use Rattle.road.specs.Judgement.{Accepted}
 use Rattle.road.specs.declared.Road.{Road}
 use Rattle.flux.specs.Face.{sending, receiving, numerator, units}
-use Rattle.flux.specs.Pace.{multiplier, slow_factor, whole_factor, factor_of, part, pace_of}
-use Rattle.flux.specs.declared.pace.Factor.{Factor}
+use Rattle.flux.specs.Factor.{multiplier, slow_factor, whole_factor, factor_of, part}
+use Rattle.flux.specs.declared.factor.Factor.{Factor}
 use Rattle.flux.specs.declared.pace.Pace.{Pace}
 use Rattle.flux.proofs.Rounding.{Quotient, quotient, units_half, units_exact, units_at_most, units_min}
 use Rattle.flux.proofs.Scaling.{min_times}
@@ -134,53 +134,47 @@ upper_half_fits a m e h k l =
     let small = product_small a m e h k l in
     record { fits = (div-lt_iff_lt-mul (lit< tt)).1 (omega arith) }
 
--- what the fields of a road's pace give
-module _ (p : Pace) (ok : Accepted p.road) (is : p ≡ pace_of p.road) where
-  send_is : p.send ≡ factor_of p.road.free p.road.divisor
-  unfolding pace_of
-  send_is = ap (λ (q : Pace). q.send) is
+-- what a road's pace gives
+module _ (p : Pace) where
+  abbrev r : Road
+  r = p.road.road
 
-  receive_is : p.receive ≡ factor_of p.road.wave p.road.divisor
-  unfolding pace_of
-  receive_is = ap (λ (q : Pace). q.receive) is
+  ok : Accepted r
+  ok = p.road.accepted
 
-  pub capacity_is : p.capacity ≡ units p.road (p.road.free * p.road.critical)
-  unfolding pace_of
-  capacity_is = ap (λ (q : Pace). q.capacity) is
+  pub send_part : (a : ℕ) → a ≤ jam_ceiling → part p.send a ≡ units r (r.free * a)
+  send_part a h = ap (λ (f : Factor). part f a) p.made.send ∙ factor_part r ok r.free a ok.free_high h
 
-  pub send_part : (a : ℕ) → a ≤ jam_ceiling → part p.send a ≡ units p.road (p.road.free * a)
-  send_part a h = ap (λ (f : Factor). part f a) send_is ∙ factor_part p.road ok p.road.free a ok.free_high h
-
-  pub receive_part : (b : ℕ) → b ≤ jam_ceiling → part p.receive b ≡ units p.road (p.road.wave * b)
-  receive_part b h = ap (λ (f : Factor). part f b) receive_is ∙ factor_part p.road ok p.road.wave b ok.wave_high h
+  pub receive_part : (b : ℕ) → b ≤ jam_ceiling → part p.receive b ≡ units r (r.wave * b)
+  receive_part b h = ap (λ (f : Factor). part f b) p.made.receive ∙ factor_part r ok r.wave b ok.wave_high h
 
   -- each is below 2^31
   pub send_small : (a : ℕ) → a ≤ jam_ceiling → part p.send a < 2 ^ 31
   send_small a h =
-      let small = part_small p.road ok p.road.free a ok.free_high in
+      let small = part_small r ok r.free a ok.free_high in
       let same = send_part a h in
       omega arith
 
   pub receive_small : (b : ℕ) → b ≤ jam_ceiling → part p.receive b < 2 ^ 31
   receive_small b h =
-      let small = part_small p.road ok p.road.wave b ok.wave_high in
+      let small = part_small r ok r.wave b ok.wave_high in
       let same = receive_part b h in
       omega arith
 
   pub capacity_small : p.capacity < 2 ^ 31
   capacity_small =
-      let small = part_small p.road ok p.road.free p.road.critical ok.free_high in
-      let same = capacity_is in
+      let small = part_small r ok r.free r.critical ok.free_high in
+      let same = p.made.capacity in
       let c = ok.critical_high in
       let j = ok.jam_high in
       omega arith
 
   -- the three together are the units of the face
-  pub paced_flow : (a b : ℕ) → a ≤ p.road.jam → min (min (part p.send a) (part p.receive (p.road.jam - b))) p.capacity ≡ units p.road (numerator p.road a b)
+  pub paced_flow : (a b : ℕ) → a ≤ r.jam → min (min (part p.send a) (part p.receive (r.jam - b))) p.capacity ≡ units r (numerator r a b)
   paced_flow a b h =
       let j = ok.jam_high in
       let sent = send_part a (le_trans h j) in
-      let received = receive_part (p.road.jam - b) (omega arith) in
-      let capacity = capacity_is in
-      let all = least_of_three p.road ok a b in
+      let received = receive_part (r.jam - b) (omega arith) in
+      let capacity = p.made.capacity in
+      let all = least_of_three r ok a b in
       omega arith

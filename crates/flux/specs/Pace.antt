@@ -1,36 +1,12 @@
--- The units of a face without a division: multipliers made once a road.
-use Rattle.std.specs.Prelude.{ℕ, ◌+◌, ◌-◌, ◌*◌, ◌/◌, ◌^◌, ltb}
-use Rattle.choice.specs.Choice.{pick}
+-- The units of a face without a division: a road's factors and its capacity.
+use Rattle.std.specs.Prelude.{◌≡◌, ℕ, ◌*◌}
 use Rattle.road.specs.declared.Road.{Road}
 use Rattle.flux.specs.Face.{units}
-use Rattle.flux.specs.declared.pace.Factor.{Factor}
-use Rattle.flux.specs.declared.pace.Pace.{Pace}
+use Rattle.flux.specs.Factor.{factor_of}
+use Rattle.flux.specs.declared.factor.Factor.{Factor}
 
--- x/d in parts of 1/2^32, rounded up
-unfoldable pub multiplier : ℕ → ℕ → ℕ
-multiplier x d = (x * 2 ^ 32 + (d - 1)) / d
-
--- a speed below the divisor: speed/divisor as a multiplier, and the half that rounding adds, half the divisor, rounded down, over the divisor
-unfoldable pub slow_factor : ℕ → ℕ → Factor
-slow_factor speed divisor = record { times = multiplier speed divisor; offset = multiplier (divisor / 2) divisor }
-
--- a speed of the whole divisor: the largest multiplier, which is short of one by 1/2^32, and half a unit, which makes up for it
-unfoldable pub whole_factor : Factor
-whole_factor = record { times = 2 ^ 32 - 1; offset = 2 ^ 31 }
-
--- the factor of speed/divisor
-unfoldable pub factor_of : ℕ → ℕ → Factor
-factor_of speed divisor = pick (ltb speed divisor) (slow_factor speed divisor) whole_factor
-
--- a density's part by a factor
-unfoldable pub part : Factor → ℕ → ℕ
-part f a = (a * f.times + f.offset) / 2 ^ 32
-
--- the road with its factors, and its capacity: the units at critical
-unfoldable pub pace_of : Road → Pace
-pace_of r = record {
-  road = r;
-  send = factor_of r.free r.divisor;
-  receive = factor_of r.wave r.divisor;
-  capacity = units r (r.free * r.critical);
-}
+-- the factors of both speeds, and the capacity: the units at critical
+pub record IsPace (r : Road) (s q : Factor) (top : ℕ) : Type 0 where
+  pub send : s ≡ factor_of r.free r.divisor
+  pub receive : q ≡ factor_of r.wave r.divisor
+  pub capacity : top ≡ units r (r.free * r.critical)

@@ -3,7 +3,12 @@
 #![tactic(auto)]
 
 mod face;
+mod factor;
+mod flow;
+mod letter;
 mod pace;
 
-pub use face::{D, L, W, letter, receiving, sending, units};
-pub use pace::{Factor, Pace};
+pub use face::{receiving, sending, units};
+pub use factor::Factor;
+pub use letter::Letter;
+pub use pace::Pace;

@@ -7,13 +7,13 @@ use native.Mathlib.Omega.{arith}
 use lib.Dec.{eqb}
 use lib.ListN.{length}
 use borrow.Author.Tests.{eqb-true}
-use Rattle.refusal.specs.declared.Refusal.{Refusal}
+use Rattle.refusal.specs.Outcome.{Outcome}
 use Rattle.refusal.proofs.Calls as Calls
 use Rattle.scheme.specs.Sums.{sum}
 use Rattle.scheme.specs.Rounded.{round_run}
 use Rattle.scheme.proofs.Promises.{round_balance}
-use Rattle.forecast.specs.declared.forecasting.ForecastAnswer.{ForecastAnswer}
-use Rattle.forecast.specs.declared.forecasting.ForecastAnswer.TheVariants.{Done, Refused}
+use Rattle.forecast.specs.Answers.{ForecastAnswer}
+use Rattle.refusal.specs.Answer.{Done, Refused}
 use Rattle.forecast.specs.Forecast.{own_of, increased, record_of, forecast_refusal, forecast_answer, forecast_cells, meaning, Forecasts}
 use Rattle.forecast.specs.Chain.{Call, Site, answer_to, output_of, fed, after_call, after_all, all_entered, all_left, Commissioned, Chained, Unaltered}
 use Rattle.forecast.proofs.Checked.{forecast_call}
@@ -25,7 +25,7 @@ record Counts (s : Site) (a : ForecastAnswer) (after : Site) : Type 0 where
   left : after.totals.left ≡ s.totals.left + (meaning a).left
 
 module _ (s : Site) (c : Call) where
-  abbrev refusal : Refusal
+  abbrev refusal : Outcome
   refusal = forecast_refusal c.road c.caps s.cells c.ups c.downs c.horizon s.totals (length c.out)
 
   -- accepted: its record, and a site with its cells and totals
@@ -72,7 +72,7 @@ module _ (s : Site) (c : Call) where
   made_feeds made = λ i. fed s (made.output i) (made.answer i)
 
   -- "A refused call in the chain alters neither"
-  pub refused_alters_nothing : {f : Refusal} → answer_to s c ≡ Refused f → Unaltered s c
+  pub refused_alters_nothing : {f : Outcome} → answer_to s c ≡ Refused f → Unaltered s c
   refused_alters_nothing q = record { site = ap (fed s (output_of s c)) q; output = by (eqb refusal.number 0) refl }
     where
       by : (b : Bool) → eqb refusal.number 0 ≡ b → output_of s c ≡ c.out

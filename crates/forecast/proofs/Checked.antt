@@ -1,30 +1,27 @@
 -- Which inputs the two tables refuse nothing of, and what a table's first part leaves to know.
-use mathlib.Core.Path.{◌≡◌, ◌∙◌, refl, sym, subst}
+use mathlib.Core.Path.{◌≡◌, ◌∙◌, refl, sym, ap, subst}
 use mathlib.Core.Bool.{Bool, false}
 use mathlib.Core.List.{List, [], ◌∷◌}
 use Prim.Native.Nat.{ℕ, zero, suc, ◌≤◌, zero-le}
-use native.Mathlib.Omega.{arith}
 use lib.ListN.{length, replicate, length-replicate}
 use borrow.Author.Tests.{ltb-false, le-ltb}
 use Rattle.choice.specs.Choice.{pick}
 use Rattle.choice.proofs.Choice.{or_left, or_right, neither}
 use Rattle.refusal.specs.Table.{refused, passed, or_if}
-use Rattle.road.specs.Ceilings.{cells_ceiling, horizon_ceiling}
 use Rattle.road.specs.declared.Road.{Road}
-use Rattle.refusal.specs.declared.Refusal.{Refusal}
+use Rattle.refusal.specs.Outcome.{Outcome}
 use Rattle.refusal.proofs.Table.{Passing, ◌&◌, condition_of, none_holds, all_pass, next_check, judge_append}
 use Rattle.road.proofs.Acceptance.{accepted_by, road_passes}
 use Rattle.refusal.proofs.Parts.{part_stands, part_clear, parts_pass}
-use Rattle.refusal.proofs.Calls.{Call}
-use Rattle.checks.specs.Checks.{value_checks, pair_checks}
+use Rattle.refusal.proofs.Calls.{Call, checked}
 use Rattle.checks.specs.Places.{Placed}
 use Rattle.checks.proofs.First.{all_below, none_above}
 use Rattle.checks.proofs.Checks.{cells_low, cells_high, cells_pass, horizon_high, horizon_passes, ups_long, downs_long, ends_pass, output_long, output_passes, caps_long, caps_pass, pair_passes}
 use Rattle.checks.proofs.Places.{values_placed}
 use Rattle.scheme.specs.Sums.{Below}
 use Rattle.scheme.specs.declared.many_steps.Totals.{Totals}
-use Rattle.forecast.specs.Forecast.{shape_checks, shape_refusal, input_checks, input_refusal, InputChecked, own_of, largest, passes_largest, total_check, total_checks, forecast_checks, forecast_refusal, Fits, Checked}
-use Rattle.forecast.specs.Settle.{settle_shape_checks, settle_shape_refusal, settle_checks, settle_refusal, SettleChecked}
+use Rattle.forecast.specs.Forecast.{input_checks, input_refusal, InputChecked, own_of, largest, passes_largest, total_check, total_checks, forecast_checks, forecast_refusal, Fits, Checked}
+use Rattle.forecast.specs.Settle.{settle_checks, settle_refusal, SettleChecked}
 
 -- 19 does not hold exactly where both totals fit
 module _ (totals own : Totals) where
@@ -40,22 +37,6 @@ module _ (totals own : Totals) where
       (le-ltb largest _ f.entered_fits) (le-ltb largest _ f.left_fits)
 
 module _ (r : Road) (caps cells ups downs : List ℕ) (t out : ℕ) where
-  -- a refusal of the shape stands
-  pub shape_stands : (f : Refusal) → f ≡ shape_refusal r (length caps) (length cells) (length ups) (length downs) t out → (f.number ≡ 0 → ⊥) → f ≡ input_refusal r caps cells ups downs t out
-  unfolding shape_refusal input_refusal
-  shape_stands = part_stands (shape_checks r (length caps) (length cells) (length ups) (length downs) t out) (value_checks r cells ups downs)
-
-  -- the lists are short once the shape is right
-  pub shape_short : (shape_refusal r (length caps) (length cells) (length ups) (length downs) t out).number ≡ 0
-      → (length cells ≤ cells_ceiling) × ((length ups ≤ horizon_ceiling) × (length downs ≤ horizon_ceiling))
-  unfolding shape_refusal
-  shape_short e =
-      let no = none_holds (shape_checks r (length caps) (length cells) (length ups) (length downs) t out) tt e in
-      let high = horizon_high t (no 6) in
-      let up = ups_long t (length ups) (length downs) (no 7) in
-      let down = downs_long t (length ups) (length downs) (no 7) in
-      (cells_high (length cells) (no 5), (omega arith, omega arith))
-
   -- the checks before 19 hold of nothing exactly where the input is checked
   input_of : ((n : ℕ) → condition_of n (input_checks r caps cells ups downs t out) ≡ false) → InputChecked r caps cells ups downs t out
   input_of none = record {
@@ -88,13 +69,16 @@ module _ (r : Road) (caps cells ups downs : List ℕ) (t out : ℕ) where
   unfolding input_refusal
   input_checked e = input_of (none_holds (input_checks r caps cells ups downs t out) tt e)
 
+  pub input_passed : passed ≡ input_refusal r caps cells ups downs t out → InputChecked r caps cells ups downs t out
+  input_passed e = input_checked (sym (ap (λ (o : Outcome). o.number) e))
+
   -- checked with one output is checked with another that is as long
   pub with_output : InputChecked r caps cells ups downs t out → (other : ℕ) → other ≡ length cells → InputChecked r caps cells ups downs t other
   with_output c other e = subst (InputChecked r caps cells ups downs t) (c.output_long ∙ sym e) c
 
   module _ (totals : Totals) where
     -- a refusal by the checks before 19 stands
-    pub input_stands : (f : Refusal) → f ≡ input_refusal r caps cells ups downs t out → (f.number ≡ 0 → ⊥) → f ≡ forecast_refusal r caps cells ups downs t totals out
+    pub input_stands : (f : Outcome) → f ≡ input_refusal r caps cells ups downs t out → (f.number ≡ 0 → ⊥) → f ≡ forecast_refusal r caps cells ups downs t totals out
     unfolding input_refusal forecast_refusal
     input_stands = part_stands (input_checks r caps cells ups downs t out) (total_checks r caps cells ups downs totals)
 
@@ -169,10 +153,5 @@ module _ (r : Road) (caps cells : List ℕ) (up down t out : ℕ) where
     downs_below = copies_below t c.down_below;
   }
 
-  pub settle_shape_stands : (f : Refusal) → f ≡ settle_shape_refusal r (length caps) (length cells) t out → (f.number ≡ 0 → ⊥) → f ≡ settle_refusal r caps cells up down t out
-  unfolding settle_shape_refusal settle_refusal
-  settle_shape_stands = part_stands (settle_shape_checks r (length caps) (length cells) t out) (pair_checks r cells up down)
-
-  pub settle_shape_short : (settle_shape_refusal r (length caps) (length cells) t out).number ≡ 0 → length cells ≤ cells_ceiling
-  unfolding settle_shape_refusal
-  settle_shape_short e = cells_high (length cells) (none_holds (settle_shape_checks r (length caps) (length cells) t out) tt e 5)
+  pub settle_passed : passed ≡ settle_refusal r caps cells up down t out → SettleChecked r caps cells up down t out
+  settle_passed e = checked settle_call (sym (ap (λ (o : Outcome). o.number) e))

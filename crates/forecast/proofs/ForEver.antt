@@ -14,8 +14,8 @@ use Rattle.scheme.specs.Sums.{sum, Below}
 use Rattle.scheme.specs.Rounded.{entered, left}
 use Rattle.scheme.specs.Settling.{settles, settle_steps, settle_cells}
 use Rattle.scheme.proofs.Promises.{round_run_length, round_range, round_balance, round_small, settle_range, settle_length, after_balance}
-use Rattle.forecast.specs.declared.settling.SettleAnswer.{SettleAnswer}
-use Rattle.forecast.specs.declared.settling.SettleAnswer.TheVariants as S
+use Rattle.forecast.specs.Answers.{SettleAnswer}
+use Rattle.refusal.specs.Answer.{Done}
 use Rattle.forecast.specs.Forecast.{forecast_refusal, Checked}
 use Rattle.forecast.specs.Settle.{settle_refusal, settle_answer, settle_output, meaning as settle_meaning, SettleChecked, Settles}
 use Rattle.forecast.specs.Chain.{Call, Site, Commissioned}
@@ -117,7 +117,7 @@ module _ (r : Road) (n steps : ℕ) (s : Site) (c : SettleCall) (f : Feeds r n s
   settle_accepts : eqb (settle_refusal r c.caps s.cells c.up c.down c.horizon (length c.out)).number 0 ≡ true
   settle_accepts = accepts_checked (settle_call r c.caps s.cells c.up c.down c.horizon (length c.out)) settle_checked
 
-  settle_answers : settle_answer_to r s c ≡ S.Done (record { settled = settles r c.caps c.up c.down c.horizon s.cells; steps = settle_steps r c.caps c.up c.down c.horizon s.cells })
+  settle_answers : settle_answer_to r s c ≡ Done (record { settled = settles r c.caps c.up c.down c.horizon s.cells; steps = settle_steps r c.caps c.up c.down c.horizon s.cells })
   unfolding settle_answer
   settle_answers = rw settle_accepts refl
 

@@ -8,14 +8,14 @@ use native.Mathlib.Omega.{arith}
 use lib.Dec.{eqb}
 use lib.ListN.{length}
 use borrow.Author.Tests.{eqb-true}
-use Rattle.refusal.specs.declared.Refusal.{Refusal}
+use Rattle.refusal.specs.Outcome.{Outcome}
 use Rattle.refusal.proofs.Table.{check_returned}
 use Rattle.refusal.proofs.Calls as Calls
 use Rattle.road.specs.Ceilings.{jam_ceiling}
 use Rattle.scheme.specs.Rounded.{entered, left}
 use Rattle.scheme.specs.declared.many_steps.Totals.{Totals}
 use Rattle.scheme.proofs.Promises.{round_small}
-use Rattle.forecast.specs.declared.forecasting.ForecastAnswer.{ForecastAnswer}
+use Rattle.forecast.specs.Answers.{ForecastAnswer}
 use Rattle.forecast.specs.Forecast.{input_checks, input_refusal, forecast_refusal, meaning, InputChecked, Checked}
 use Rattle.forecast.specs.Chain.{Call, Site, answer_to, output_of, fed}
 use Rattle.forecast.specs.ForEver.{lifetime}
@@ -33,7 +33,7 @@ module _ (totals : Totals) (m : Measured) where
   abbrev c : Call
   c = m.call
 
-  abbrev refusal : Refusal
+  abbrev refusal : Outcome
   refusal = forecast_refusal c.road c.caps m.cells c.ups c.downs c.horizon totals (length c.out)
 
   -- no step moves more than the ceiling of jam over a face
@@ -46,7 +46,7 @@ module _ (totals : Totals) (m : Measured) where
   unfolding input_refusal
   others_pass e = by (ℕ_discrete before.number 0)
     where
-      before : Refusal
+      before : Outcome
       before = input_refusal c.road c.caps m.cells c.ups c.downs c.horizon (length c.out)
 
       by : Dec (before.number ≡ 0) → InputChecked c.road c.caps m.cells c.ups c.downs c.horizon (length c.out)
@@ -54,7 +54,7 @@ module _ (totals : Totals) (m : Measured) where
       by (no n) =
           let same = input_stands c.road c.caps m.cells c.ups c.downs c.horizon (length c.out) totals before refl n in
           let held = check_returned (input_checks c.road c.caps m.cells c.ups c.downs c.horizon (length c.out)) tt 19 (suc-le-suc zero-le)
-          (ap (λ (f : Refusal). f.number) same ∙ e) in
+          (ap (λ (f : Outcome). f.number) same ∙ e) in
           absurd (false≢true held.0)
 
   call_few : (k : ℕ) → Few k totals → Few (k + steps_of (answer_to (made_at totals m) c) c.horizon) (totals_after totals m)
@@ -104,7 +104,7 @@ room_left before m within e =
     fits_surely (carried_by from_none before) m (steps_made from_none before)
     record { entered = omega (arith, few.entered); left = omega (arith, few.left) } within (by (eqb f.number 0) refl)
   where
-    f : Refusal
+    f : Outcome
     f = refusal (carried_by from_none before) m
 
     by : (b : Bool) → eqb f.number 0 ≡ b → f.number ≡ 19

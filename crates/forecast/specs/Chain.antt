@@ -3,8 +3,8 @@ use Rattle.std.specs.Prelude.{◌≡◌, List, [], ◌∷◌, ℕ, ◌+◌, leng
 use Rattle.road.specs.declared.Road.{Road}
 use Rattle.scheme.specs.Sums.{sum}
 use Rattle.scheme.specs.declared.many_steps.Totals.{Totals}
-use Rattle.forecast.specs.declared.forecasting.ForecastAnswer.{ForecastAnswer}
-use Rattle.forecast.specs.declared.forecasting.ForecastAnswer.TheVariants.{Done, Refused}
+use Rattle.forecast.specs.Answers.{ForecastAnswer}
+use Rattle.refusal.specs.Answer.{Done, Refused}
 use Rattle.forecast.specs.Forecast.{forecast_answer, forecast_cells, meaning}
 
 -- a forecast of the chain: its road, its caps, its horizon, its end lists, and what its output held before

@@ -7,9 +7,8 @@ use Rattle.scheme.specs.Sums.{sum, Below}
 use Rattle.scheme.specs.Rounded.{entered, left}
 use Rattle.scheme.specs.declared.settling.Settled.{Settled}
 use Rattle.forecast.specs.declared.forecasting.Record.{Record}
-use Rattle.forecast.specs.declared.forecasting.ForecastAnswer.TheVariants as F
-use Rattle.forecast.specs.declared.settling.SettleAnswer.{SettleAnswer}
-use Rattle.forecast.specs.declared.settling.SettleAnswer.TheVariants as S
+use Rattle.forecast.specs.Answers.{SettleAnswer}
+use Rattle.refusal.specs.Answer.{Done, Refused}
 use Rattle.forecast.specs.Forecast.{meaning}
 use Rattle.forecast.specs.Settle.{settle_answer, settle_output, meaning as settle_meaning}
 use Rattle.forecast.specs.Chain.{Call, Site, answer_to, after_call}
@@ -71,13 +70,13 @@ steps_reported r s c = (settle_meaning (settle_answer_to r s c)).steps
 
 -- the call answers Done
 abbrev pub IsDone : Road → Site → AnyCall → Type 0
-IsDone r s (forecast c) = (d : Record) × (answer_to s c ≡ F.Done d)
-IsDone r s (settle c) = (d : Settled) × (settle_answer_to r s c ≡ S.Done d)
+IsDone r s (forecast c) = (d : Record) × (answer_to s c ≡ Done d)
+IsDone r s (settle c) = (d : Settled) × (settle_answer_to r s c ≡ Done d)
 
 -- the site after a call: a settling run takes no totals and hands none on, so that the totals here are those of the forecasts alone
 abbrev pub settled : Site → List ℕ → SettleAnswer → Site
-settled s next (S.Done d) = record { cells = next; totals = s.totals }
-settled s next (S.Refused f) = s
+settled s next (Done d) = record { cells = next; totals = s.totals }
+settled s next (Refused f) = s
 
 abbrev pub site_after : Road → Site → AnyCall → Site
 site_after r s (forecast c) = after_call s c

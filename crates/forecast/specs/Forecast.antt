@@ -5,7 +5,7 @@ use Rattle.refusal.specs.Table.{Check, check, judge, refused, Judged, unless_ref
 use Rattle.road.specs.Ceilings.{cells_ceiling, horizon_ceiling}
 use Rattle.road.specs.Judgement.{road_checks, Accepted}
 use Rattle.road.specs.declared.Road.{Road}
-use Rattle.refusal.specs.declared.Refusal.{Refusal}
+use Rattle.refusal.specs.Outcome.{Outcome}
 use Rattle.checks.specs.Checks.{cells_check, horizon_check, ends_check, output_check, caps_check, value_checks}
 use Rattle.checks.specs.Places.{Placed}
 use Rattle.scheme.specs.Sums.{sum, distance, times, Below}
@@ -14,8 +14,8 @@ use Rattle.scheme.specs.ByFaces.{RunByFaces, ExactRunByFaces}
 use Rattle.scheme.specs.Exact.{exact_run}
 use Rattle.scheme.specs.declared.many_steps.Totals.{Totals}
 use Rattle.forecast.specs.declared.forecasting.Record.{Record}
-use Rattle.forecast.specs.declared.forecasting.ForecastAnswer.{ForecastAnswer}
-use Rattle.forecast.specs.declared.forecasting.ForecastAnswer.TheVariants.{Done, Refused}
+use Rattle.forecast.specs.Answers.{ForecastAnswer}
+use Rattle.refusal.specs.Answer.{Done, Refused}
 
 -- checks 5 to 8 and 20, over the numbers of caps, of cells, of upstream and downstream ends, the horizon, and the output's length: 20 "after 8 and before 9" (document 02, E7)
 abbrev pub list_checks : ℕ → ℕ → ℕ → ℕ → ℕ → ℕ → List Check
@@ -25,14 +25,11 @@ list_checks caps cells ups downs t out = cells_check cells ∷ horizon_check t �
 abbrev pub shape_checks : Road → ℕ → ℕ → ℕ → ℕ → ℕ → ℕ → List Check
 shape_checks r caps cells ups downs t out = road_checks r ++ list_checks caps cells ups downs t out
 
-unfoldable pub shape_refusal : Road → ℕ → ℕ → ℕ → ℕ → ℕ → ℕ → Refusal
-shape_refusal r caps cells ups downs t out = judge (shape_checks r caps cells ups downs t out)
-
 -- "forecast 1–11", with 20 before 9
 abbrev pub input_checks : Road → List ℕ → List ℕ → List ℕ → List ℕ → ℕ → ℕ → List Check
 input_checks r caps cells ups downs t out = shape_checks r (length caps) (length cells) (length ups) (length downs) t out ++ value_checks r cells ups downs
 
-unfoldable pub input_refusal : Road → List ℕ → List ℕ → List ℕ → List ℕ → ℕ → ℕ → Refusal
+unfoldable pub input_refusal : Road → List ℕ → List ℕ → List ℕ → List ℕ → ℕ → ℕ → Outcome
 input_refusal r caps cells ups downs t out = judge (input_checks r caps cells ups downs t out)
 
 -- "the call's own entered and left" (document 02, E4)
@@ -61,7 +58,7 @@ total_checks r caps cells ups downs totals = total_check totals (own_of r caps c
 abbrev pub forecast_checks : Road → List ℕ → List ℕ → List ℕ → List ℕ → ℕ → Totals → ℕ → List Check
 forecast_checks r caps cells ups downs t totals out = input_checks r caps cells ups downs t out ++ total_checks r caps cells ups downs totals
 
-unfoldable pub forecast_refusal : Road → List ℕ → List ℕ → List ℕ → List ℕ → ℕ → Totals → ℕ → Refusal
+unfoldable pub forecast_refusal : Road → List ℕ → List ℕ → List ℕ → List ℕ → ℕ → Totals → ℕ → Outcome
 forecast_refusal r caps cells ups downs t totals out = judge (forecast_checks r caps cells ups downs t totals out)
 
 -- what an accepted forecast hands back: the units of its own steps, and the totals increased by them
@@ -139,7 +136,7 @@ pub record Checked (r : Road) (caps cells ups downs : List ℕ) (t : ℕ) (total
   pub fits : Fits totals (own_of r caps cells ups downs)
 
 -- demand 1 of a refusal, of the forecast's checks
-abbrev pub ForecastJudged : Road → List ℕ → List ℕ → List ℕ → List ℕ → ℕ → Totals → ℕ → Refusal → Type 0
+abbrev pub ForecastJudged : Road → List ℕ → List ℕ → List ℕ → List ℕ → ℕ → Totals → ℕ → Outcome → Type 0
 ForecastJudged r caps cells ups downs t totals out f =
     Judged (forecast_checks r caps cells ups downs t totals out) (Checked r caps cells ups downs t totals out) (Placed r cells ups downs) f
 

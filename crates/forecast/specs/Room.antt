@@ -1,8 +1,8 @@
 -- Room for the totals, for a site as it is: it begins again from measured cells, on whatever road, meets refusals, and carries its totals on from 0.
 use Rattle.std.specs.Prelude.{◌≡◌, List, [], ◌∷◌, ℕ, ◌+◌, ◌≤◌}
 use Rattle.scheme.specs.declared.many_steps.Totals.{Totals}
-use Rattle.forecast.specs.declared.forecasting.ForecastAnswer.{ForecastAnswer}
-use Rattle.forecast.specs.declared.forecasting.ForecastAnswer.TheVariants.{Done, Refused}
+use Rattle.forecast.specs.Answers.{ForecastAnswer}
+use Rattle.refusal.specs.Answer.{Done, Refused}
 use Rattle.forecast.specs.Forecast.{meaning}
 use Rattle.forecast.specs.Chain.{Call, Site, answer_to, after_call}
 use Rattle.forecast.specs.ForEver.{lifetime}

@@ -4,7 +4,7 @@ use Rattle.refusal.specs.Table.{Check, judge, refused, Judged, unless_refused}
 use Rattle.road.specs.Ceilings.{cells_ceiling, horizon_ceiling}
 use Rattle.road.specs.Judgement.{road_checks, Accepted}
 use Rattle.road.specs.declared.Road.{Road}
-use Rattle.refusal.specs.declared.Refusal.{Refusal}
+use Rattle.refusal.specs.Outcome.{Outcome}
 use Rattle.checks.specs.Checks.{cells_check, horizon_check, output_check, caps_check, pair_checks}
 use Rattle.checks.specs.Places.{Placed}
 use Rattle.scheme.specs.Sums.{Below}
@@ -13,10 +13,8 @@ use Rattle.scheme.specs.ByFaces.{RunByFaces}
 use Rattle.scheme.specs.Settling.{after, settles, settle_steps, settle_cells, LeastStill}
 use Rattle.scheme.specs.declared.settling.Settled.{Settled}
 use Rattle.forecast.specs.declared.forecasting.Record.{Record}
-use Rattle.forecast.specs.declared.forecasting.ForecastAnswer.{ForecastAnswer}
-use Rattle.forecast.specs.declared.forecasting.ForecastAnswer.TheVariants as Forecast
-use Rattle.forecast.specs.declared.settling.SettleAnswer.{SettleAnswer}
-use Rattle.forecast.specs.declared.settling.SettleAnswer.TheVariants.{Done, Refused}
+use Rattle.forecast.specs.Answers.{ForecastAnswer, SettleAnswer}
+use Rattle.refusal.specs.Answer.{Done, Refused}
 use Rattle.forecast.specs.Chain.{Call, Site, answer_to, output_of}
 
 -- checks 5, 6, 8 and 20, over the numbers of caps and of cells, the horizon and the output's length
@@ -27,14 +25,11 @@ settle_list_checks caps cells t out = cells_check cells ∷ horizon_check t ∷ 
 abbrev pub settle_shape_checks : Road → ℕ → ℕ → ℕ → ℕ → List Check
 settle_shape_checks r caps cells t out = road_checks r ++ settle_list_checks caps cells t out
 
-unfoldable pub settle_shape_refusal : Road → ℕ → ℕ → ℕ → ℕ → Refusal
-settle_shape_refusal r caps cells t out = judge (settle_shape_checks r caps cells t out)
-
 -- "settling 1–6 and 8–11", with 20 "after 8 and before 9" (document 02, E7)
 abbrev pub settle_checks : Road → List ℕ → List ℕ → ℕ → ℕ → ℕ → ℕ → List Check
 settle_checks r caps cells up down t out = settle_shape_checks r (length caps) (length cells) t out ++ pair_checks r cells up down
 
-unfoldable pub settle_refusal : Road → List ℕ → List ℕ → ℕ → ℕ → ℕ → ℕ → Refusal
+unfoldable pub settle_refusal : Road → List ℕ → List ℕ → ℕ → ℕ → ℕ → ℕ → Outcome
 settle_refusal r caps cells up down t out = judge (settle_checks r caps cells up down t out)
 
 -- the answer: settled or unsettled with the steps made, or the refusal
@@ -82,7 +77,7 @@ pub record SettleChecked (r : Road) (caps cells : List ℕ) (up down t out : ℕ
   pub down_below : down ≤ r.jam
 
 -- demand 1 of a refusal, of the settling run's checks; the one end pair stands at place 0
-abbrev pub SettleJudged : Road → List ℕ → List ℕ → ℕ → ℕ → ℕ → ℕ → Refusal → Type 0
+abbrev pub SettleJudged : Road → List ℕ → List ℕ → ℕ → ℕ → ℕ → ℕ → Outcome → Type 0
 SettleJudged r caps cells up down t out f =
     Judged (settle_checks r caps cells up down t out) (SettleChecked r caps cells up down t out) (Placed r cells (up ∷ []) (down ∷ [])) f
 
@@ -116,7 +111,7 @@ pub record Settlement (r : Road) (caps cells : List ℕ) (up down t : ℕ) (next
   pub within : Below r.jam next
   -- "A settled state must then equal the full forecast", which is not refused; so does an unsettled one
   pub full : next ≡ full_cells r caps cells up down t
-  pub full_done : (d : Record) × (full_answer r caps cells up down t ≡ Forecast.Done d)
+  pub full_done : (d : Record) × (full_answer r caps cells up down t ≡ Done d)
 
 -- what the call promises: a the answer, out what the output held at entry, next what it holds at exit
 pub record Settles (r : Road) (caps cells : List ℕ) (up down t : ℕ) (out next : List ℕ) (a : SettleAnswer) : Type 0 where

@@ -4,7 +4,7 @@ ghost use Rattle.road.specs.Ceilings.{jam_ceiling};
 ghost use Rattle.scheme.specs.Sums.{Below};
 
 // The least power of two above the ceiling of jam.
-const RANGE: u32 = 1048576;
+const RANGE: u32 = 1_048_576;
 
 // Internal: a density, as a number within that range. So a copy is not a plain one, which would be compiled to a call of
 // memcpy: this library calls no other, not even C's.
@@ -15,14 +15,14 @@ fn density(x: u32) -> u32
     x % RANGE
 }
 
-// Internal: the output then holds the cells.
+// Internal: the output then holds the cells. Not over pairs of the two lists: no proof knows what a loop over them wrote.
+#[tactic(auto, using(crate::proofs::Copied::begins, crate::proofs::Copied::turns, crate::proofs::Copied::ends))]
 pub fn copy(cells: &[u32], out: &mut [u32])
-    requires { Below jam_ceiling cells.now × (length out.old ≡ length cells.now) }
+    requires below { Below jam_ceiling cells.now }
+    requires long { length out.old ≡ length cells.now }
     ensures { out.new ≡ cells.now }
 {
-    let mut i = 0;
-    while i < cells.len() {
-        out[i] = density(cells[i]);
-        i += 1;
+    for (i, x) in cells.iter().enumerate() {
+        out[i] = density(*x);
     }
 }

@@ -2,9 +2,11 @@
 // the table refuses.
 #![tactic(auto)]
 
+mod accepted;
 mod copying;
 mod forecasting;
 mod settling;
+mod values;
 
-pub use forecasting::{ForecastAnswer, Record, forecast};
-pub use settling::{SettleAnswer, settle};
+pub use forecasting::{Record, forecast};
+pub use settling::settle;

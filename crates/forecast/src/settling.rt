@@ -1,36 +1,17 @@
 // The settling run: whether the road settles with one end pair, and the state it settles to.
-ghost use Rattle.std.specs.Prelude.{◌≡◌};
-ghost use Rattle.forecast.specs.Settle.{settle_shape_refusal, settle_refusal, Settles};
+ghost use Rattle.std.specs.Prelude.{◌≡◌, IfOk};
+ghost use Rattle.refusal.specs.Answer.{judged_of, answer_of};
+ghost use Rattle.forecast.specs.Settle.{settle_refusal, Settles};
 
 use super::copying::copy;
+use super::values::judged_values;
 use flux::Pace;
 use refusal::Refusal;
-use road::Road;
+use road::{AcceptedRoad, Road};
 use scheme::Settled;
 
-// What a settling run answers: settled or not with the steps made, or the refusal.
-#[derive(Clone, Copy)]
-pub enum SettleAnswer {
-    Done(Settled),
-    Refused(Refusal),
-}
-
-// Internal: checks 1 to 6, 8 and 20, of the road and of the lists' lengths.
-fn judged_shape(road: Road, caps: usize, cells: usize, horizon: u32, out: usize) -> Refusal
-    ensures { result ≡ settle_shape_refusal road caps cells horizon out }
-{
-    let bad_cells = checks::bad_cells(cells);
-    let bad_horizon = checks::bad_horizon(horizon);
-    let bad_output = checks::bad_output(cells, out);
-    let bad_caps = checks::bad_caps(cells, caps);
-    road::judged(road)
-        .or_if(bad_cells, 5, 0)
-        .or_if(bad_horizon, 6, 0)
-        .or_if(bad_output, 8, 0)
-        .or_if(bad_caps, 20, 0)
-}
-
-// Internal: the settling run's refusal, or none.
+// Internal: checks 1 to 6, 8, 20 and 9 to 11.
+#[tactic(auto, unfolding(crate::specs::Settle::settle_refusal, refusal::specs::Table::or_if))]
 fn judged(
     road: Road,
     caps: &[u32],
@@ -39,14 +20,25 @@ fn judged(
     down: u32,
     horizon: u32,
     out: usize,
-) -> Refusal
-    ensures { result ≡ settle_refusal road caps.now cells.now up down horizon out }
+) -> Result<AcceptedRoad, Refusal>
+    ensures refusal { judged_of result ≡ settle_refusal road caps.now cells.now up down horizon out }
+    ensures road { IfOk result (λ accepted. accepted.road ≡ road) }
 {
-    let shape = judged_shape(road, caps.len(), cells.len(), horizon, out);
-    if shape.number != 0 {
-        return shape;
+    let road = road.judged()?;
+    if checks::bad_cells(cells.len()) {
+        return Err(Refusal::Cells);
     }
-    checks::or_pair(shape, road, cells, up, down)
+    if checks::bad_horizon(horizon) {
+        return Err(Refusal::Horizon);
+    }
+    if checks::bad_output(cells.len(), out) {
+        return Err(Refusal::Output);
+    }
+    if checks::bad_caps(cells.len(), caps.len()) {
+        return Err(Refusal::Caps);
+    }
+    judged_values(road, cells, &[up], &[down])?;
+    Ok(road)
 }
 
 // No face moves more than its cap in a step. A step is still where it keeps every density. Settled, with the least k below
@@ -61,13 +53,10 @@ pub fn settle(
     horizon: u32,
     caps: &[u32],
     out: &mut [u32],
-) -> SettleAnswer
-    ensures { Settles road caps.now cells.now up down horizon out.old out.new result }
+) -> Result<Settled, Refusal>
+    ensures { Settles road caps.now cells.now up down horizon out.old out.new (answer_of result) }
 {
-    let refusal = judged(road, caps, cells, up, down, horizon, out.len());
-    if refusal.number != 0 {
-        return SettleAnswer::Refused(refusal);
-    }
+    let road = judged(road, caps, cells, up, down, horizon, out.len())?;
     copy(cells, out);
-    SettleAnswer::Done(scheme::settle(Pace::of(road), caps, out, up, down, horizon))
+    Ok(scheme::settle(Pace::of(road), caps, out, up, down, horizon))
 }

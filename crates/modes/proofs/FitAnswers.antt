@@ -5,7 +5,7 @@ use mathlib.Core.List.{List, []}
 use Prim.Native.Nat.{ℕ, ◌+◌}
 use lib.ListN.{length}
 use Rattle.road.specs.declared.Road.{Road}
-use Rattle.refusal.specs.declared.Refusal.{Refusal}
+use Rattle.refusal.specs.Outcome.{Outcome}
 use Rattle.refusal.proofs.Calls.{Call, accepts_checked, refuses, accepts}
 use Rattle.checks.proofs.State.{state_checked}
 use Rattle.scheme.specs.Word.{word_of}
@@ -13,8 +13,8 @@ use Rattle.modes.specs.Judging.{fit_checks, fit_refusal}
 use Rattle.words.specs.Places.{PairWordPlaced}
 use Rattle.modes.specs.Fit.{first_misfit, all_letters_hold, misfit_face, fit_answer, meaning, fit_meaning, FitChecked, Compared, FitState, Fits, AnswersFit}
 use Rattle.modes.specs.declared.fitting.FitResult.{FitResult}
-use Rattle.modes.specs.declared.fitting.FitAnswer.{FitAnswer}
-use Rattle.modes.specs.declared.fitting.FitAnswer.TheVariants.{Done, Refused}
+use Rattle.modes.specs.Answers.{FitAnswer}
+use Rattle.refusal.specs.Answer.{Done, Refused}
 use Rattle.words.proofs.WordCheck.{word_long, word_legal, state_word_passes, pair_word_placed}
 use Rattle.modes.proofs.Misfits.{own_long, same_word, other_word}
 use Rattle.modes.proofs.Fitness.{fit_state}
@@ -55,13 +55,13 @@ module _ (r : Road) (cells : List ℕ) (up down : ℕ) (word : List ℕ) where
         record { holds = sym holds; face = rw holds found }
 
   -- refused: the number and place of the table
-  pub refused : (f : Refusal) → f ≡ fit_refusal r cells up down word → (f.number ≡ 0 → ⊥) → Fits r cells up down word (Refused f)
+  pub refused : (f : Outcome) → f ≡ fit_refusal r cells up down word → (f.number ≡ 0 → ⊥) → Fits r cells up down word (Refused f)
   unfolding fit_answer fit_meaning
   refused f e n =
       let k = refuses fit_call e n in
       record {
         answer = rw k.no (ap Refused e);
-        means = rw k.no (ap (λ (g : Refusal). meaning (Refused g)) e);
+        means = rw k.no (ap (λ (g : Outcome). meaning (Refused g)) e);
         judged = k.judged;
         state = λ g q. absurd (true≢false (cc q));
       }

@@ -7,15 +7,15 @@ use native.Mathlib.Omega.{arith}
 use lib.ListN.{length}
 use Rattle.road.specs.Ceilings.{cells_ceiling}
 use Rattle.road.specs.declared.Road.{Road}
-use Rattle.refusal.specs.declared.Refusal.{Refusal}
+use Rattle.refusal.specs.Outcome.{Outcome}
 use Rattle.refusal.proofs.Calls as Calls
 use Rattle.scheme.specs.Word.{word_of}
 use Rattle.scheme.proofs.Faces.{word_length}
 use Rattle.modes.specs.Modes.{modes_of}
 use Rattle.modes.specs.Judging.{read_refusal}
 use Rattle.modes.specs.Reading.{counts_of, queued_of, counts_for, no_counts, read_answer, read_letters, read_modes, ReadChecked, Reads}
-use Rattle.modes.specs.declared.reading.ReadAnswer.{ReadAnswer}
-use Rattle.modes.specs.declared.reading.ReadAnswer.TheVariants.{Done, Refused}
+use Rattle.modes.specs.Answers.{ReadAnswer}
+use Rattle.refusal.specs.Answer.{Done, Refused}
 use Rattle.modes.specs.declared.reading.Counts.{Counts}
 use Rattle.modes.specs.declared.reading.StateReading.{StateReading}
 use Rattle.modes.proofs.TalliedModes.{state_modes_length}
@@ -28,15 +28,15 @@ reading a c = record { answer = a; counts = c }
 
 module _ (r : Road) (cells : List ℕ) (up down : ℕ) (letters modes : List ℕ) where
   -- refused: the number and place of the table, no counts, and the former contents
-  pub refused : (f : Refusal) → f ≡ read_refusal r cells up down (length letters) (length modes) → (f.number ≡ 0 → ⊥)
+  pub refused : (f : Outcome) → f ≡ read_refusal r cells up down (length letters) (length modes) → (f.number ≡ 0 → ⊥)
       → Reads r cells up down letters letters modes modes (reading (Refused f) no_counts)
   unfolding read_answer read_letters read_modes
   refused f e n =
       let k = Calls.refuses (read_call r cells up down (length letters) (length modes)) e n in
       record {
-        answer = rw k.no (ap (λ (g : Refusal). reading (Refused g) no_counts) e);
-        number = ap (λ (g : Refusal). g.number) e;
-        place = ap (λ (g : Refusal). g.place) e;
+        answer = rw k.no (ap (λ (g : Outcome). reading (Refused g) no_counts) e);
+        number = ap (λ (g : Outcome). g.number) e;
+        place = ap (λ (g : Outcome). g.place) e;
         letters_written = rw k.no refl;
         modes_written = rw k.no refl;
         judged = k.judged;
@@ -70,8 +70,8 @@ module _ (r : Road) (cells : List ℕ) (up down : ℕ) (letters modes : List ℕ
             let counted : c ≡ counts_for r cells ms = λ j. record { modes = tallied j; queued = above j } in
             record {
               answer = rw k.yes (ap (reading Done) (counted ∙ ap (counts_for r cells) modes_are));
-              number = sym (ap (λ (g : Refusal). g.number) k.nothing);
-              place = sym (ap (λ (g : Refusal). g.place) k.nothing);
+              number = sym (ap (λ (g : Outcome). g.number) k.nothing);
+              place = sym (ap (λ (g : Outcome). g.place) k.nothing);
               letters_written = rw k.yes lettered;
               modes_written = rw k.yes modes_are;
               judged = k.judged;

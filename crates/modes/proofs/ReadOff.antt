@@ -13,7 +13,7 @@ use Rattle.words.specs.Words.{legal}
 use Rattle.modes.specs.ReadOff.{upstream_of, downstream_of, cells_of}
 use Rattle.modes.specs.Reading.{read_answer, ReadChecked}
 use Rattle.modes.specs.ReadOff.{ReadOff}
-use Rattle.modes.specs.declared.reading.ReadAnswer.TheVariants.{Done}
+use Rattle.refusal.specs.Answer.{Done}
 use Rattle.modes.specs.declared.reading.StateReading.{StateReading}
 use Rattle.modes.proofs.Occurs.{occurs}
 use Rattle.modes.proofs.ReadJudging.{read_call}

@@ -3,7 +3,7 @@ use Rattle.std.specs.Prelude.{◌≡◌, Bool, true, false, ◌↔◌, List, [],
 use Rattle.choice.specs.Choice.{pick}
 use Rattle.refusal.specs.Table.{refused, Judged, unless_refused}
 use Rattle.road.specs.declared.Road.{Road}
-use Rattle.refusal.specs.declared.Refusal.{Refusal}
+use Rattle.refusal.specs.Outcome.{Outcome}
 use Rattle.checks.specs.State.{StateChecked}
 use Rattle.flux.specs.Letters.{Lettered}
 use Rattle.scheme.specs.Advance.{padded}
@@ -13,8 +13,8 @@ use Rattle.words.specs.Words.{legal}
 use Rattle.modes.specs.Judging.{fit_checks, fit_refusal}
 use Rattle.words.specs.Places.{PairWordPlaced}
 use Rattle.modes.specs.declared.fitting.FitResult.{FitResult}
-use Rattle.modes.specs.declared.fitting.FitAnswer.{FitAnswer}
-use Rattle.modes.specs.declared.fitting.FitAnswer.TheVariants.{Done, Refused}
+use Rattle.modes.specs.Answers.{FitAnswer}
+use Rattle.refusal.specs.Answer.{Done, Refused}
 
 -- the lowest face at which two words of one length differ, from 0; the number of faces where none does. Check 12 lets no other length through
 unfoldable pub first_misfit : List ℕ → List ℕ → ℕ
@@ -62,7 +62,7 @@ pub record FitChecked (r : Road) (cells : List ℕ) (up down : ℕ) (word : List
   pub word_legal : legal word ≡ true
 
 -- demand 1 of a refusal, of the fit test's checks
-abbrev pub FitJudged : Road → List ℕ → ℕ → ℕ → List ℕ → Refusal → Type 0
+abbrev pub FitJudged : Road → List ℕ → ℕ → ℕ → List ℕ → Outcome → Type 0
 FitJudged r cells up down word f = Judged (fit_checks r cells up down word) (FitChecked r cells up down word) (PairWordPlaced r cells up down word) f
 
 -- what the comparison of the faces reports

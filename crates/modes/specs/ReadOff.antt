@@ -5,7 +5,7 @@ use Rattle.road.specs.declared.Road.{Road}
 use Rattle.flux.specs.Face.{letter_w, letter_l, letter_d}
 use Rattle.scheme.specs.Word.{word_of}
 use Rattle.modes.specs.Reading.{ReadChecked, Reads}
-use Rattle.modes.specs.declared.reading.ReadAnswer.TheVariants.{Done}
+use Rattle.refusal.specs.Answer.{Done}
 use Rattle.modes.specs.declared.reading.StateReading.{StateReading}
 
 -- a state with a given legal word, of the densities 0, C and J alone. Between the letters s and t stands J where s is W or t is L, C where t is W after L or D, and 0 otherwise

@@ -3,7 +3,7 @@ use Rattle.std.specs.Prelude.{◌≡◌, true, List, [], ◌∷◌, ℕ, ◌+◌
 use Rattle.choice.specs.Choice.{pick}
 use Rattle.refusal.specs.Table.{refused, Judged, unless_refused}
 use Rattle.road.specs.declared.Road.{Road}
-use Rattle.refusal.specs.declared.Refusal.{Refusal}
+use Rattle.refusal.specs.Outcome.{Outcome}
 use Rattle.checks.specs.Places.{Placed}
 use Rattle.checks.specs.State.{StateChecked}
 use Rattle.flux.specs.Letters.{PublishedFlow}
@@ -14,9 +14,9 @@ use Rattle.words.specs.Words.{legal}
 use Rattle.modes.specs.Modes.{modes_of}
 use Rattle.modes.specs.Judging.{read_checks, read_refusal}
 use Rattle.modes.specs.Fit.{all_letters_hold, LetteredWord, Fits, AnswersFit}
-use Rattle.modes.specs.declared.fitting.FitAnswer.{FitAnswer}
-use Rattle.modes.specs.declared.reading.ReadAnswer.{ReadAnswer}
-use Rattle.modes.specs.declared.reading.ReadAnswer.TheVariants.{Done, Refused}
+use Rattle.modes.specs.Answers.{FitAnswer}
+use Rattle.modes.specs.Answers.{ReadAnswer}
+use Rattle.refusal.specs.Answer.{Done, Refused}
 use Rattle.modes.specs.declared.reading.Counts.{Counts}
 use Rattle.modes.specs.declared.reading.StateReading.{StateReading}
 
@@ -53,7 +53,7 @@ pub record ReadChecked (r : Road) (cells : List ℕ) (up down letters modes : �
   pub modes_long : modes ≡ length cells
 
 -- demand 1 of a refusal, of the reading's checks
-abbrev pub ReadJudged : Road → List ℕ → ℕ → ℕ → ℕ → ℕ → Refusal → Type 0
+abbrev pub ReadJudged : Road → List ℕ → ℕ → ℕ → ℕ → ℕ → Outcome → Type 0
 ReadJudged r cells up down letters modes f =
     Judged (read_checks r cells up down letters modes) (ReadChecked r cells up down letters modes) (Placed r cells (up ∷ []) (down ∷ [])) f
 

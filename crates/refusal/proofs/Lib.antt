@@ -2,3 +2,4 @@
 pub mod Table
 pub mod Parts
 pub mod Calls
+pub mod Results

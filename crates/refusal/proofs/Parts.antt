@@ -7,16 +7,16 @@ use native.Mathlib.Nat.{pos_of_ne-zero}
 use lib.Dec.{eqb}
 use Rattle.choice.specs.Choice.{pick}
 use Rattle.refusal.specs.Table.{Check, passed, judge_below, judge}
-use Rattle.refusal.specs.declared.Refusal.{Refusal}
+use Rattle.refusal.specs.Outcome.{Outcome}
 use Rattle.refusal.proofs.Table.{Passing, condition_of, judge_append, first_part_stands}
 
 -- a refusal by the first part is the whole table's
-pub part_stands : (checks more : List Check) (f : Refusal) → f ≡ judge checks → (f.number ≡ 0 → ⊥) → f ≡ judge (checks ++ more)
+pub part_stands : (checks more : List Check) (f : Outcome) → f ≡ judge checks → (f.number ≡ 0 → ⊥) → f ≡ judge (checks ++ more)
 part_stands checks more f e n = e ∙ sym (first_part_stands checks more (rw e at (pos_of_ne-zero n)))
 
 -- the checks below, judged below what the first part was worked to, are the whole table's
-pub part_goes_on : (checks more : List Check) {f g : Refusal} → f ≡ judge checks → g ≡ judge_below f more → g ≡ judge (checks ++ more)
-part_goes_on checks more e h = h ∙ ap (λ (f : Refusal). judge_below f more) e ∙ sym (judge_append passed checks more)
+pub part_goes_on : (checks more : List Check) {f g : Outcome} → f ≡ judge checks → g ≡ judge_below f more → g ≡ judge (checks ++ more)
+part_goes_on checks more e h = h ∙ ap (λ (f : Outcome). judge_below f more) e ∙ sym (judge_append passed checks more)
 
 -- a number whose condition fails in the whole has one that fails in the first part
 pub part_clear : (checks more : List Check) (n : ℕ) → condition_of n (checks ++ more) ≡ false → condition_of n checks ≡ false
@@ -34,5 +34,5 @@ parts_pass [] more p q = q
 parts_pass (r ∷ rs) more (e, p) q = (e, parts_pass rs more p q)
 
 -- a refusal that was worked has the table's number
-pub same_number : {f g : Refusal} → f ≡ g → f.number ≡ 0 → g.number ≡ 0
-same_number e z = sym (ap (λ (f : Refusal). f.number) e) ∙ z
+pub same_number : {f g : Outcome} → f ≡ g → f.number ≡ 0 → g.number ≡ 0
+same_number e z = sym (ap (λ (f : Outcome). f.number) e) ∙ z

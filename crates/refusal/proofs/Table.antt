@@ -11,35 +11,35 @@ use lib.ListN.{length, get_or, length-map, get_or-map}
 use borrow.Author.Tests.{eq-eqb, ne_eqb, lt-ltb}
 use Rattle.choice.specs.Choice.{pick, both}
 use Rattle.refusal.specs.Table.{refused, passed, or_if, Among, at_head, in_tail, lower_in, falling, Check, check, judge_below, judge, lacks, apart, rising, check_at, Applies, First, Lowest}
-use Rattle.refusal.specs.declared.Refusal.{Refusal}
+use Rattle.refusal.specs.Outcome.{Outcome}
 use Rattle.choice.proofs.Choice.{both_left, both_right}
 
 -- one check of code: the check above, the condition and the place as they were shown to be
-pub next_check : (n : ℕ) {f f' : Refusal} {c c' : Bool} {p p' : ℕ} → f ≡ f' → c ≡ c' → p ≡ p' → or_if f c n p ≡ or_if f' c' n p'
+pub next_check : (n : ℕ) {f f' : Outcome} {c c' : Bool} {p p' : ℕ} → f ≡ f' → c ≡ c' → p ≡ p' → or_if f c n p ≡ or_if f' c' n p'
 next_check n e q s = λ i. or_if (e i) (q i) n (s i)
 
 -- of a check that reports place 0
-pub next_at_0 : (n : ℕ) {f f' : Refusal} {c c' : Bool} → f ≡ f' → c ≡ c' → or_if f c n 0 ≡ or_if f' c' n 0
+pub next_at_0 : (n : ℕ) {f f' : Outcome} {c c' : Bool} → f ≡ f' → c ≡ c' → or_if f c n 0 ≡ or_if f' c' n 0
 next_at_0 n e q = next_check n e q refl
 
 -- a check below a refusal changes nothing
-check_stands : (f : Refusal) (c : Bool) (n p : ℕ) → 0 < f.number → or_if f c n p ≡ f
+check_stands : (f : Outcome) (c : Bool) (n p : ℕ) → 0 < f.number → or_if f c n p ≡ f
 unfolding or_if
 check_stands f c n p h = simp (ne_eqb f.number 0 (λ e. omega arith))
 
-refusal_stands : (f : Refusal) (rs : List Check) → 0 < f.number → judge_below f rs ≡ f
+pub refusal_stands : (f : Outcome) (rs : List Check) → 0 < f.number → judge_below f rs ≡ f
 refusal_stands f [] h = refl
 refusal_stands f (r ∷ rs) h =
-    ap (λ (g : Refusal). judge_below g rs) (check_stands f r.condition r.number r.place h) ∙ refusal_stands f rs h
+    ap (λ (g : Outcome). judge_below g rs) (check_stands f r.condition r.number r.place h) ∙ refusal_stands f rs h
 
 -- the first check refuses, or the rest is judged
 module _ (r : Check) (rs : List Check) where
-  judge_here : r.condition ≡ true → 0 < r.number → judge (r ∷ rs) ≡ refused r.number r.place
+  pub judge_here : r.condition ≡ true → 0 < r.number → judge (r ∷ rs) ≡ refused r.number r.place
   unfolding or_if
   judge_here e pos =
       ap (λ (c : Bool). judge_below (or_if passed c r.number r.place) rs) e ∙ refusal_stands (refused r.number r.place) rs pos
 
-  judge_on : r.condition ≡ false → judge (r ∷ rs) ≡ judge rs
+  pub judge_on : r.condition ≡ false → judge (r ∷ rs) ≡ judge rs
   unfolding or_if
   judge_on e = ap (λ (c : Bool). judge_below (or_if passed c r.number r.place) rs) e
 
@@ -98,7 +98,7 @@ rising_order k (r ∷ rs) t (suc i) (suc j) h g =
     rising_order r.number rs (both_right (ltb k r.number) (rising r.number rs) t) i j (le_of_suc-le-suc h) (le_of_suc-le-suc g)
 
 -- so that the first that fits is the lowest that applies
-pub first_lowest : (checks : List Check) {f : Refusal} → T (rising 0 checks) → First checks f → Lowest checks f
+pub first_lowest : (checks : List Check) {f : Outcome} → T (rising 0 checks) → First checks f → Lowest checks f
 first_lowest checks {f} t first = record {
   applies = λ h. let (i, l, q, before) = first.fits h in (i, l, q);
   returned = first.found;
@@ -144,7 +144,7 @@ falls_at (n ∷ ns) zero (suc j) h g l = among_left (falling ns) (lower_among n 
 falls_at (n ∷ ns) (suc i) (suc j) h g l = among_right (lower_in n ns) (falls_at ns i j (le_of_suc-le-suc h) (le_of_suc-le-suc g) l)
 
 -- so that a lower number which applies stands after the first that fits
-pub first_falls : (checks : List Check) {f : Refusal} → First checks f → (number place : ℕ) → Applies checks number place → number < f.number
+pub first_falls : (checks : List Check) {f : Outcome} → First checks f → (number place : ℕ) → Applies checks number place → number < f.number
     → Among (f.number, number) (falling (map (λ (c : Check). c.number) checks))
 first_falls checks {f} first n p (j, g, s) low = told (first.fits (omega arith))
   where
@@ -200,9 +200,9 @@ passing_of (r ∷ rs) t e = by_test r.condition refl (passing_of rs (rest_apart 
     by_test : (c : Bool) → r.condition ≡ c → ((judge rs).number ≡ 0 → Passing rs) → Passing (r ∷ rs)
     by_test true q rest =
         let h = above_0 r rs t in
-        let same : (judge (r ∷ rs)).number ≡ r.number = ap (λ (f : Refusal). f.number) (judge_here r rs q h) in
+        let same : (judge (r ∷ rs)).number ≡ r.number = ap (λ (f : Outcome). f.number) (judge_here r rs q h) in
         absurd (omega arith)
-    by_test false q rest = (q, rest (ap (λ (f : Refusal). f.number) (sym (judge_on r rs q)) ∙ e))
+    by_test false q rest = (q, rest (ap (λ (f : Outcome). f.number) (sym (judge_on r rs q)) ∙ e))
 
 -- the condition and the place of the check that has a number
 abbrev pub condition_of : ℕ → List Check → Bool
@@ -248,16 +248,16 @@ check_returned (r ∷ rs) t n h e = by_test r.condition refl (check_returned rs 
         → (condition_of n (r ∷ rs) ≡ true) × (place_of n (r ∷ rs) ≡ (judge (r ∷ rs)).place)
     by_test true q rest =
         let here = judge_here r rs q (above_0 r rs t) in
-        let same : r.number ≡ n = ap (λ (f : Refusal). f.number) (sym here) ∙ e in
-        rw (eq-eqb r.number n same) (q, ap (λ (f : Refusal). f.place) (sym here))
+        let same : r.number ≡ n = ap (λ (f : Outcome). f.number) (sym here) ∙ e in
+        rw (eq-eqb r.number n same) (q, ap (λ (f : Outcome). f.place) (sym here))
     by_test false q rest =
         let on = judge_on r rs q in
-        let (holds, place) = rest (ap (λ (f : Refusal). f.number) (sym on) ∙ e) in
+        let (holds, place) = rest (ap (λ (f : Outcome). f.number) (sym on) ∙ e) in
         let other : r.number ≡ n → ⊥ = λ same. true≢false (sym holds ∙ not_lacked n rs (subst (λ (m : ℕ). T (lacks m rs)) same (lacked r rs t))) in
-        rw (ne_eqb r.number n other) (holds, place ∙ ap (λ (f : Refusal). f.place) (sym on))
+        rw (ne_eqb r.number n other) (holds, place ∙ ap (λ (f : Outcome). f.place) (sym on))
 
 -- a table in two parts: the second is judged below what the first came to
-pub judge_append : (f : Refusal) (checks more : List Check) → judge_below f (checks ++ more) ≡ judge_below (judge_below f checks) more
+pub judge_append : (f : Outcome) (checks more : List Check) → judge_below f (checks ++ more) ≡ judge_below (judge_below f checks) more
 judge_append f [] more = refl
 judge_append f (r ∷ rs) more = judge_append (or_if f r.condition r.number r.place) rs more
 
@@ -265,7 +265,7 @@ judge_append f (r ∷ rs) more = judge_append (or_if f r.condition r.number r.pl
 pub failing_left_out : (checks more : List Check) (n p : ℕ) → judge (checks ++ (check false n p ∷ more)) ≡ judge (checks ++ more)
 unfolding or_if
 failing_left_out checks more n p =
-    judge_append passed checks (check false n p ∷ more) ∙ ap (λ (f : Refusal). judge_below f more) (by_test (eqb (judge checks).number 0)) ∙ sym (judge_append passed checks more)
+    judge_append passed checks (check false n p ∷ more) ∙ ap (λ (f : Outcome). judge_below f more) (by_test (eqb (judge checks).number 0)) ∙ sym (judge_append passed checks more)
   where
     by_test : (b : Bool) → pick b (judge checks) (judge checks) ≡ judge checks
     by_test true = refl
@@ -280,7 +280,7 @@ abbrev pub placeless : List Check → Bool
 placeless [] = true
 placeless (r ∷ rs) = both (eqb r.place 0) (placeless rs)
 
-check_placeless : (f : Refusal) (c : Bool) (n p : ℕ) → f.place ≡ 0 → p ≡ 0 → (or_if f c n p).place ≡ 0
+check_placeless : (f : Outcome) (c : Bool) (n p : ℕ) → f.place ≡ 0 → p ≡ 0 → (or_if f c n p).place ≡ 0
 unfolding or_if
 check_placeless f c n p e q = by_tests (eqb f.number 0) c
   where
@@ -289,7 +289,7 @@ check_placeless f c n p e q = by_tests (eqb f.number 0) c
     by_tests true false = e
     by_tests false holds = e
 
-placeless_below : (f : Refusal) (checks : List Check) → f.place ≡ 0 → T (placeless checks) → (judge_below f checks).place ≡ 0
+placeless_below : (f : Outcome) (checks : List Check) → f.place ≡ 0 → T (placeless checks) → (judge_below f checks).place ≡ 0
 placeless_below f [] e t = e
 placeless_below f (r ∷ rs) e t =
     let q = eqb→eq r.place 0 (both_left (eqb r.place 0) (placeless rs) t) in

@@ -1,22 +1,22 @@
 -- The refusal table as a form: checks of a condition, a number and a place, in the call's order of checks. The first check that holds is returned, which has the lowest number that applies where the numbers rise.
 use Rattle.std.specs.Prelude.{◌≡◌, Bool, true, false, not, List, [], ◌∷◌, ◌++◌, map, ℕ, ◌≤◌, ◌<◌, T, eqb, ltb, length, get_or}
 use Rattle.choice.specs.Choice.{pick, both}
-use Rattle.refusal.specs.declared.Refusal.{Refusal}
+use Rattle.refusal.specs.Outcome.{Outcome}
 
 -- a refusal with its number and place
-abbrev pub refused : ℕ → ℕ → Refusal
+abbrev pub refused : ℕ → ℕ → Outcome
 refused number place = record { number = number; place = place }
 
 -- nothing is refused: number 0
-abbrev pub passed : Refusal
+abbrev pub passed : Outcome
 passed = refused 0 0
 
 -- one more check: a refusal by a check above stands; otherwise this check refuses where its condition holds
-unfoldable pub or_if : Refusal → Bool → ℕ → ℕ → Refusal
+unfoldable pub or_if : Outcome → Bool → ℕ → ℕ → Outcome
 or_if above condition number place = pick (eqb above.number 0) (pick condition (refused number place) above) above
 
 -- what a call comes to by its refusal: the value where nothing is refused, else what a refused call has instead
-abbrev pub unless_refused {ℓ} : {A : Type ℓ} → Refusal → A → A → A
+abbrev pub unless_refused {ℓ} : {A : Type ℓ} → Outcome → A → A → A
 unless_refused f value otherwise = pick (eqb f.number 0) value otherwise
 
 -- a check of the table: condition, number, place reported
@@ -29,12 +29,12 @@ abbrev pub check : Bool → ℕ → ℕ → Check
 check condition number place = record { condition = condition; number = number; place = place }
 
 -- the checks judged down the table, below what the checks above came to
-abbrev pub judge_below : Refusal → List Check → Refusal
+abbrev pub judge_below : Outcome → List Check → Outcome
 judge_below above [] = above
 judge_below above (r ∷ rs) = judge_below (or_if above r.condition r.number r.place) rs
 
 -- what a table comes to: its first check that applies, or none
-abbrev pub judge : List Check → Refusal
+abbrev pub judge : List Check → Outcome
 judge checks = judge_below passed checks
 
 -- no check has this number
@@ -77,20 +77,20 @@ falling (n ∷ ns) = lower_in n ns ++ falling ns
 
 -- "the first fitting number and place of the refusal table": a number returned is that of a check which holds, with its place, and no check before it
 -- holds; where one holds, one is returned
-pub record First (checks : List Check) (f : Refusal) : Type 0 where
+pub record First (checks : List Check) (f : Outcome) : Type 0 where
   pub fits : 0 < f.number
       → (i : ℕ) × (i < length checks) × (check_at checks i ≡ check true f.number f.place) × ((j : ℕ) → j < i → (check_at checks j).condition ≡ false)
   pub found : (number place : ℕ) → Applies checks number place → 0 < f.number
 
 -- "The lowest number that applies is returned": a number returned applies, with its place, and no lower one does; where one applies, one is returned
-pub record Lowest (checks : List Check) (f : Refusal) : Type 0 where
+pub record Lowest (checks : List Check) (f : Outcome) : Type 0 where
   pub applies : 0 < f.number → Applies checks f.number f.place
   pub returned : (number place : ℕ) → Applies checks number place → 0 < f.number
   pub lowest : (number place : ℕ) → Applies checks number place → f.number ≤ number
 
 -- demand 1 of a refusal (number 0 for none), of a call's checks: the first that fits, which is the lowest number that applies where the numbers rise, at the
 -- place that the table says; none exactly where the input is checked
-pub record Judged (checks : List Check) (Checked : Type 0) (Placed : Refusal → Type 0) (f : Refusal) : Type 0 where
+pub record Judged (checks : List Check) (Checked : Type 0) (Placed : Outcome → Type 0) (f : Outcome) : Type 0 where
   pub first : First checks f
   pub lowest : T (rising 0 checks) → Lowest checks f
   -- of any call: a lower number that applies besides stands after the one returned

@@ -4,7 +4,7 @@ use Rattle.choice.specs.Choice.{or}
 use Rattle.road.specs.Ceilings.{divisor_ceiling, jam_ceiling}
 use Rattle.refusal.specs.Table.{Check, check, judge}
 use Rattle.road.specs.declared.Road.{Road}
-use Rattle.refusal.specs.declared.Refusal.{Refusal}
+use Rattle.refusal.specs.Outcome.{Outcome}
 
 -- a number outside its range, both ends included in the range
 abbrev pub outside : ℕ → ℕ → ℕ → Bool
@@ -43,7 +43,7 @@ abbrev pub road_checks : Road → List Check
 road_checks r = divisor_check r ∷ speeds_check r ∷ densities_check r ∷ balance_check r ∷ []
 
 -- the lowest of them that applies
-unfoldable pub road_refusal : Road → Refusal
+unfoldable pub road_refusal : Road → Outcome
 road_refusal r = judge (road_checks r)
 
 -- a road that document 01 allows, sentence by sentence

@@ -1,68 +1,65 @@
 // The judgement of a road: numbers 1 to 4 of the refusal table, lowest first, for any five 32-bit numbers.
-ghost use Rattle.std.specs.Prelude.{◌≡◌, ◌-◌};
+ghost use Rattle.std.specs.Prelude.{◌≡◌, IfOk};
+ghost use Rattle.refusal.specs.Answer.{judged_of};
 ghost use Rattle.road.specs.Judgement.{outside, bad_divisor, bad_speeds, bad_densities, unbalanced, road_refusal};
 
-use super::Road;
+use super::{AcceptedRoad, Road};
 use refusal::Refusal;
 
 // Internal: whether x lies outside low..high.
 fn is_outside(low: u32, high: u32, x: u32) -> bool
     ensures { result ≡ outside low high x }
 {
-    choice::either(x < low, high < x)
+    x < low || high < x
 }
 
-// Internal: a - b, or 0 where b is the greater.
-pub fn less(a: u32, b: u32) -> u32
-    ensures { result ≡ a - b }
-{
-    if b <= a { a - b } else { 0 }
-}
+impl Road {
+    fn has_bad_divisor(self) -> bool
+        ensures { result ≡ bad_divisor self }
+    {
+        is_outside(1, Road::DIVISOR, self.divisor)
+    }
 
-fn bad_divisor(r: Road) -> bool
-    ensures { result ≡ bad_divisor r }
-{
-    is_outside(1, Road::DIVISOR, r.divisor)
-}
+    fn has_bad_speeds(self) -> bool
+        ensures { result ≡ bad_speeds self }
+    {
+        is_outside(1, self.divisor, self.free) || is_outside(1, self.divisor, self.wave)
+    }
 
-fn bad_speeds(r: Road) -> bool
-    ensures { result ≡ bad_speeds r }
-{
-    choice::either(
-        is_outside(1, r.divisor, r.free),
-        is_outside(1, r.divisor, r.wave),
-    )
-}
+    fn has_bad_densities(self) -> bool
+        ensures { result ≡ bad_densities self }
+    {
+        is_outside(2, Road::JAM, self.jam)
+            || is_outside(1, self.jam.saturating_sub(1), self.critical)
+    }
 
-fn bad_densities(r: Road) -> bool
-    ensures { result ≡ bad_densities r }
-{
-    choice::either(
-        is_outside(2, Road::JAM, r.jam),
-        is_outside(1, less(r.jam, 1), r.critical),
-    )
-}
+    // The products are 64 bits wide, so that no five numbers overflow.
+    fn is_unbalanced(self) -> bool
+        ensures { result ≡ unbalanced self }
+    {
+        let sent = self.free as u64 * self.critical as u64;
+        let received = self.wave as u64 * self.jam.saturating_sub(self.critical) as u64;
+        sent != received
+    }
 
-// The products are 64 bits wide, so that no five numbers overflow.
-fn is_unbalanced(r: Road) -> bool
-    ensures { result ≡ unbalanced r }
-{
-    let sent = (r.free as u64) * (r.critical as u64);
-    let received = (r.wave as u64) * (less(r.jam, r.critical) as u64);
-    sent != received
-}
-
-// Internal: the road's refusal, or none.
-pub fn judged(r: Road) -> Refusal
-    ensures { result ≡ road_refusal r }
-{
-    let divisor = bad_divisor(r);
-    let speeds = bad_speeds(r);
-    let densities = bad_densities(r);
-    let balance = is_unbalanced(r);
-    Refusal::none()
-        .or_if(divisor, 1, 0)
-        .or_if(speeds, 2, 0)
-        .or_if(densities, 3, 0)
-        .or_if(balance, 4, 0)
+    // Internal: the accepted road, or the first check that it does not pass.
+    #[tactic(auto, unfolding(crate::specs::Judgement::road_refusal, refusal::specs::Table::or_if))]
+    pub fn judged(self) -> Result<AcceptedRoad, Refusal>
+        ensures refusal { judged_of result ≡ road_refusal self }
+        ensures road { IfOk result (λ accepted. accepted.road ≡ self) }
+    {
+        if self.has_bad_divisor() {
+            return Err(Refusal::Divisor);
+        }
+        if self.has_bad_speeds() {
+            return Err(Refusal::Speeds);
+        }
+        if self.has_bad_densities() {
+            return Err(Refusal::Densities);
+        }
+        if self.is_unbalanced() {
+            return Err(Refusal::Balance);
+        }
+        Ok(AcceptedRoad { road: self })
+    }
 }

@@ -1,11 +1,12 @@
 // The road: five numbers, its ceilings, and the judgement that every call with a road makes of it first.
 #![tactic(auto)]
 
+mod accepted;
 mod ceilings;
 mod judgement;
 
+pub use accepted::AcceptedRoad;
 pub use ceilings::{cells_ceiling, count_ceiling, divisor_ceiling, horizon_ceiling, jam_ceiling};
-pub use judgement::judged;
 
 // A uniform road (document 01, "The road and its units"), in the order of its paragraph.
 #[derive(Clone, Copy)]

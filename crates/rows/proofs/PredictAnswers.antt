@@ -6,7 +6,7 @@ use Prim.Native.Nat.{ℕ}
 use lib.IntN.{ℤ}
 use lib.ListN.{length}
 use Rattle.road.specs.declared.Road.{Road}
-use Rattle.refusal.specs.declared.Refusal.{Refusal}
+use Rattle.refusal.specs.Outcome.{Outcome}
 use Rattle.refusal.proofs.Table.{◌&◌}
 use Rattle.refusal.proofs.Calls.{Call, refuses, accepts}
 use Rattle.checks.specs.Checks.{output_check}
@@ -16,7 +16,7 @@ use Rattle.rows.specs.Rows.{row_numerators}
 use Rattle.rows.specs.Judging.{predict_checks, predict_refusal}
 use Rattle.words.specs.Places.{PairWordPlaced}
 use Rattle.rows.specs.Prediction.{predict_answer, predicted, PredictChecked, Predicts}
-use Rattle.rows.specs.declared.prediction.PredictAnswer.TheVariants.{Done, Refused}
+use Rattle.refusal.specs.Answer.{Done, Refused}
 use Rattle.words.proofs.WordCheck.{word_long, word_legal, state_word_passes, pair_word_placed}
 use Rattle.rows.proofs.PredictState.{predict_state}
 
@@ -40,15 +40,15 @@ module _ (r : Road) (cells : List ℕ) (up down : ℕ) (word : List ℕ) where
 
   module _ (out : List ℤ) where
     -- refused: the number and place of the table, and the former contents
-    pub refused : (f : Refusal) → f ≡ predict_refusal r cells up down word (length out) → (f.number ≡ 0 → ⊥)
+    pub refused : (f : Outcome) → f ≡ predict_refusal r cells up down word (length out) → (f.number ≡ 0 → ⊥)
         → Predicts r cells up down word out out (Refused f)
     unfolding predict_answer predicted
     refused f e n =
         let k = refuses (predict_call (length out)) e n in
         record {
           answer = rw k.no (ap Refused e);
-          number = ap (λ (g : Refusal). g.number) e;
-          place = ap (λ (g : Refusal). g.place) e;
+          number = ap (λ (g : Outcome). g.number) e;
+          place = ap (λ (g : Outcome). g.place) e;
           output = rw k.no refl;
           judged = k.judged;
           state = λ q. absurd (true≢false (cc q));

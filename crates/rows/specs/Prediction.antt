@@ -2,7 +2,7 @@
 use Rattle.std.specs.Prelude.{◌≡◌, true, List, map, ℕ, ◌+◌, ◌*◌, ◌≤◌, ◌<◌, ℤ, pos, ◌-ℤ◌, nat_abs, length, get_or}
 use Rattle.refusal.specs.Table.{refused, Judged, unless_refused}
 use Rattle.road.specs.declared.Road.{Road}
-use Rattle.refusal.specs.declared.Refusal.{Refusal}
+use Rattle.refusal.specs.Outcome.{Outcome}
 use Rattle.checks.specs.State.{StateChecked}
 use Rattle.scheme.specs.Word.{word_of}
 use Rattle.scheme.specs.Exact.{exact_step}
@@ -13,8 +13,8 @@ use Rattle.rows.specs.Rows.{row_numerators}
 use Rattle.rows.specs.Judging.{predict_checks, predict_refusal}
 use Rattle.words.specs.Places.{PairWordPlaced}
 use Rattle.modes.specs.ReadOff.{ReadOff}
-use Rattle.rows.specs.declared.prediction.PredictAnswer.{PredictAnswer}
-use Rattle.rows.specs.declared.prediction.PredictAnswer.TheVariants.{Done, Refused}
+use Rattle.rows.specs.Answers.{PredictAnswer}
+use Rattle.refusal.specs.Answer.{Done, Refused}
 
 unfoldable pub predict_answer : Road → List ℕ → ℕ → ℕ → List ℕ → ℕ → PredictAnswer
 predict_answer r cells up down word out =
@@ -42,7 +42,7 @@ pub record PredictChecked (r : Road) (cells : List ℕ) (up down : ℕ) (word : 
   pub word_legal : legal word ≡ true
 
 -- demand 1 of a refusal, of the row prediction's checks
-abbrev pub PredictJudged : Road → List ℕ → ℕ → ℕ → List ℕ → ℕ → Refusal → Type 0
+abbrev pub PredictJudged : Road → List ℕ → ℕ → ℕ → List ℕ → ℕ → Outcome → Type 0
 PredictJudged r cells up down word out f =
     Judged (predict_checks r cells up down word out) (PredictChecked r cells up down word out) (PairWordPlaced r cells up down word) f
 

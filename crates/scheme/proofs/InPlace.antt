@@ -83,9 +83,9 @@ module _ {j c : ℕ} {F : ℕ → ℕ → ℕ → ℕ} (laws : Lawful 1 j c F) w
     pub turns : i + 1 < length x → out ≡ F (i + 1) (get_or x i 0) (get_or x (i + 1) 0) → StepUnderway j F up down old first (set x i (get_or x i 0 + inflow - out)) (i + 1) out
     turns = rw (add-one i) turn
 
-    pub ends : length x ≤ suc i → out ≡ F (suc i) (get_or x i 0) down → Stepped F up down old (set x i (get_or x i 0 + inflow - out)) record { entered = first; left = out }
+    end : length x ≤ suc i → out ≡ F (suc i) (get_or x i 0) down → Stepped F up down old (set x i (get_or x i 0 + inflow - out)) record { entered = first; left = out }
     unfolding advance outflow ahead
-    ends h e =
+    end h e =
         let own = get_or x i 0 in
         let new = own + inflow - out in
         let here = drop-cons x i 0 now.inside in
@@ -98,3 +98,13 @@ module _ {j c : ℕ} {F : ℕ → ℕ → ℕ → ℕ} (laws : Lawful 1 j c F) w
           entered = now.entered;
           left = sym (rw rest at (outflow_cell F (suc i) inflow down own here out over)) ∙ now.left;
         }
+
+    -- the same, with the last cell's place as the code has it
+    pub ends : length old - 1 ≤ i → out ≡ F (length old) (get_or x (length old - 1) 0) down
+        → Stepped F up down old (set x (length old - 1) (get_or x (length old - 1) 0 + inflow - out)) record { entered = first; left = out }
+    ends h e =
+        let long = now.long in
+        let inside = now.inside in
+        let place : length old - 1 ≡ i = omega arith in
+        let all : length old ≡ suc i = omega arith in
+        rw place (end (omega arith) (rw (place, all) at e))

@@ -48,11 +48,11 @@ partners r caps ok = record {
   spread = units_spread r ok.divisor_low;
 }
 
--- where a call is ready, its rounded flow is lawful
-pub lawful : {p : Pace} {caps xs : List ℕ} {up down : ℕ} → Ready p caps xs up down → Lawful 1 p.road.jam p.road.critical (moved p.road caps)
-lawful {p} {caps} h = (partners p.road caps h.accepted).rounded
+-- the rounded flow of a pace is lawful, its road being accepted
+pub lawful : (p : Pace) (caps : List ℕ) → Lawful 1 p.road.road.jam p.road.road.critical (moved p.road.road caps)
+lawful p caps = (partners p.road.road caps p.road.accepted).rounded
 
--- and the next call is ready, with as many cells in range
-pub ready_again : {p : Pace} {caps xs ys : List ℕ} {up down : ℕ} → Ready p caps xs up down → length ys ≡ length xs → Below p.road.jam ys → Ready p caps ys up down
+-- where a call is ready the next one is, with as many cells in range
+pub ready_again : {p : Pace} {caps xs ys : List ℕ} {up down : ℕ} → Ready p caps xs up down → length ys ≡ length xs → Below p.road.road.jam ys → Ready p caps ys up down
 ready_again h e below =
-    record { accepted = h.accepted; pace_of_road = h.pace_of_road; caps_long = rw e h.caps_long; some = rw e h.some; below = below; up_high = h.up_high; down_high = h.down_high }
+    record { caps_long = rw e h.caps_long; some = rw e h.some; below = below; up_high = h.up_high; down_high = h.down_high }

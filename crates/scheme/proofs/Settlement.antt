@@ -2,8 +2,8 @@
 use mathlib.Core.Path.{◌≡◌, ◌∙◌, refl, sym, ap}
 use mathlib.Core.Bool.{Bool, true, false, true≢false, false≢true}
 use mathlib.Core.List.{List}
-use Prim.Native.Nat.{ℕ, zero, suc, ◌+◌, ◌-◌, ◌≤◌, ◌<◌, suc-le-suc, zero-le}
-use native.Mathlib.Nat.{not-suc-le-zero, le_of_suc-le-suc, zero-add, suc-add, sub-zero, sub-eq-zero_of_le}
+use Prim.Native.Nat.{ℕ, zero, suc, ◌+◌, ◌-◌, ◌<◌, suc-le-suc, zero-le}
+use native.Mathlib.Nat.{not-suc-le-zero, le_of_suc-le-suc, zero-add, suc-add, sub-zero, sub-eq-zero_of_le, le_of_eq}
 use native.Mathlib.Numerals.{add-one}
 use native.Mathlib.Omega.{arith}
 use lib.ListN.{length, replicate}
@@ -153,13 +153,13 @@ module _ (r : Road) (caps : List ℕ) (up down : ℕ) where
         }
 
     -- the horizon is used up
-    pub unsettled : t ≤ k → SettledTo r caps up down t old cells record { settled = false; steps = k }
+    pub unsettled : k ≡ t → SettledTo r caps up down t old cells record { settled = false; steps = t }
     unfolding settles settle_steps settle_cells
-    unsettled h =
-        let none = sub-eq-zero_of_le h in
-        let steps : k ≡ settle_steps r caps up down t old = omega (arith, rw none at now.steps_left) in
+    unsettled all =
+        let none = sub-eq-zero_of_le (le_of_eq (sym all)) in
+        let steps : t ≡ settle_steps r caps up down t old = omega (arith, rw none at now.steps_left) in
         record {
-          cells = now.reached ∙ ap (λ (n : ℕ). iterated (round_step r caps up down) n old) steps;
+          cells = now.reached ∙ ap (λ (n : ℕ). iterated (round_step r caps up down) n old) (all ∙ steps);
           settled = rw none at now.finds_left;
           steps = steps;
         }

@@ -1,15 +1,18 @@
--- Stillness by faces: a step is still exactly when all faces move the same units. And the code's test midway: the faces up to i are compared.
+-- Stillness by faces: a step is still exactly when all faces move the same units. And the code's test, which compares both ends and then the inner faces.
 use mathlib.Core.Path.{◌≡◌, ◌∙◌, refl, sym, ap, ap₂}
 use mathlib.Core.Bool.{Bool, true, false}
-use mathlib.Core.Logic.{◌↔◌}
+use mathlib.Core.Logic.{◌↔◌, ◌≢◌}
 use mathlib.Core.List.{List, [], ◌∷◌, ◌++◌}
-use Prim.Native.Nat.{ℕ, zero, suc, ◌+◌, ◌-◌, ◌≤◌, ◌<◌}
-use native.Mathlib.Nat.{le_refl}
-use native.Mathlib.Decide.{dec_le}
+use Prim.Native.Nat.{ℕ, zero, suc, ◌+◌, ◌-◌, ◌≤◌, ◌<◌, zero-le}
+use native.Mathlib.Nat.{le_refl, zero-add}
+use native.Mathlib.Decide.{dec_lt}
 use native.Mathlib.Numerals.{add-one}
 use native.Mathlib.Omega.{arith}
 use lib.ListN.{length, get_or, get_or-append}
 use lib.Seq.{ext_get_or, get_or-append_seam}
+use Rattle.std.specs.Bool.{MatchBool}
+use Rattle.std.specs.List.{range_with_len, AllWithin, HoldsAt}
+use Rattle.std.proofs.lemmas.List.FromFn.{length-range_with_len, get_or-range_with_len}
 use Rattle.road.specs.Judgement.{Accepted}
 use Rattle.road.specs.declared.Road.{Road}
 use Rattle.scheme.specs.Advance.{padded, face_flows}
@@ -65,45 +68,48 @@ module _ (r : Road) (caps : List ℕ) (up down : ℕ) (x : List ℕ) where
         let (keeps, kept) = still_means r caps up down x in
         (λ e. kept_even (keeps e), λ even. kept (even_kept even))
 
--- the faces up to i move the same units
-pub record EvenSoFar (r : Road) (caps : List ℕ) (up down : ℕ) (x : List ℕ) (first i : ℕ) : Type 0 where
-  pub inside : i < length x
-  pub even : (k : ℕ) → k ≤ i → over r caps up down x k ≡ first
+  -- the units over the right face of a cell that is not the last, and the places of these cells
+  abbrev pub inner : ℕ → ℕ
+  inner i = moved r caps (i + 1) (get_or x i 0) (get_or x (i + 1) 0)
 
-module _ {r : Road} {caps : List ℕ} (ok : Accepted r) {up down : ℕ} {x : List ℕ} where
-  pub begins : {first : ℕ} → 0 < length x → first ≡ moved r caps 0 up (get_or x 0 0) → EvenSoFar r caps up down x first 0
-  begins {first} pos e = record { inside = pos; even = only }
-    where
-      only : (k : ℕ) → k ≤ 0 → over r caps up down x k ≡ first
-      only zero h = first_face r caps up down x pos ∙ sym e
-      only (suc k) h = absurd (omega arith)
+  abbrev pub inner_cells : List ℕ
+  inner_cells = range_with_len 0 (length x - 1)
 
-  module _ {first i : ℕ} (now : EvenSoFar r caps up down x first i) where
+  many : length inner_cells ≡ length x - 1
+  many = length-range_with_len 0 (length x - 1)
+
+  place : (i : ℕ) → i + 1 < length x → get_or inner_cells i 0 ≡ i
+  place i h = get_or-range_with_len 0 (length x - 1) i 0 (omega arith) ∙ zero-add i
+
+  -- the code's test: both ends are compared, and then the inner faces
+  module _ (ok : Accepted r) (some : 0 < length x) {first last : ℕ}
+      (at_first : first ≡ moved r caps 0 up (get_or x 0 0)) (at_last : last ≡ moved r caps (length x) (get_or x (length x - 1) 0) down) where
     -- some face moves other units
-    uneven : (k : ℕ) → k ≤ length x → {units : ℕ} → units ≡ over r caps up down x k → (units ≡ first → ⊥) → false ≡ still r caps up down x
-    uneven k h e n = fails (still r caps up down x) (λ s. n (e ∙ (even_flows r caps up down x ok).0 s k h ∙ now.even 0 (omega arith)))
+    uneven : (k : ℕ) → k ≤ length x → (over k ≡ first → ⊥) → false ≡ still r caps up down x
+    uneven k h n = fails (still r caps up down x) (λ s. n ((even_flows ok).0 s k h ∙ first_face some ∙ sym at_first))
 
-    pub ends_uneven : {last : ℕ} → last ≡ moved r caps (length x) (get_or x (length x - 1) 0) down → (last ≡ first → ⊥) → false ≡ still r caps up down x
-    ends_uneven e = uneven (length x) (le_refl (length x)) (e ∙ sym (last_face r caps up down x (let h = now.inside in omega arith)))
+    pub ends_differ : (last ≡ first → ⊥) → false ≡ still r caps up down x
+    ends_differ n = uneven (length x) (le_refl (length x)) (λ e. n (at_last ∙ sym (last_face some) ∙ e))
 
-    pub turns_uneven : {inner : ℕ} → i + 1 < length x → inner ≡ moved r caps (i + 1) (get_or x i 0) (get_or x (i + 1) 0) → (inner ≡ first → ⊥) → false ≡ still r caps up down x
-    turns_uneven h e = uneven (i + 1) (omega arith) (e ∙ sym (inner_face r caps up down x i h))
+    inner_differs : (i : ℕ) → i + 1 < length x → (inner i ≡ first → ⊥) → false ≡ still r caps up down x
+    inner_differs i h n = uneven (i + 1) (omega arith) (λ e. n (sym (inner_face i h) ∙ e))
 
-    -- one face more that moves the same
-    one_more : over r caps up down x (i + 1) ≡ first → (k : ℕ) → k ≤ i + 1 → over r caps up down x k ≡ first
-    one_more e k l = by_place (dec_le k i)
+    all_same : last ≡ first → ((i : ℕ) → i + 1 < length x → inner i ≡ first) → true ≡ still r caps up down x
+    all_same same inners = sym ((even_flows ok).1 (λ k h. each k h ∙ sym (each 0 zero-le)))
       where
-        by_place : Dec (k ≤ i) → over r caps up down x k ≡ first
-        by_place (yes before) = now.even k before
-        by_place (no beyond) = let here : k ≡ i + 1 = omega arith in ap (over r caps up down x) here ∙ e
+        each : (k : ℕ) → k ≤ length x → over k ≡ first
+        each zero h = first_face some ∙ sym at_first
+        each (suc k) h = by_place (dec_lt (suc k) (length x))
+          where
+            by_place : Dec (suc k < length x) → over (suc k) ≡ first
+            by_place (yes within) = let l : k + 1 < length x = omega arith in rw (← add-one k) (inner_face k l ∙ inners k l)
+            by_place (no beyond) = let all : suc k ≡ length x = omega arith in ap over all ∙ last_face some ∙ sym at_last ∙ same
 
-    pub turns : {inner : ℕ} → i + 1 < length x → inner ≡ moved r caps (i + 1) (get_or x i 0) (get_or x (i + 1) 0) → inner ≡ first → EvenSoFar r caps up down x first (i + 1)
-    turns h e same = record { inside = h; even = one_more (inner_face r caps up down x i h ∙ sym e ∙ same) }
-
-    -- the last face is the one beyond i
-    pub ends : {last : ℕ} → length x ≤ i + 1 → last ≡ moved r caps (length x) (get_or x (length x - 1) 0) down → last ≡ first → true ≡ still r caps up down x
-    ends h e same =
-        let inside = now.inside in
-        let all : length x ≡ i + 1 = omega arith in
-        let beyond = rw all at (last_face r caps up down x (omega arith) ∙ sym e ∙ same) in
-        sym ((even_flows r caps up down x ok).1 (λ k l. one_more beyond k (rw all at l) ∙ sym (now.even 0 (omega arith))))
+    -- where the ends agree, the inner faces decide
+    pub inner_decide : last ≡ first → (b : Bool)
+        → MatchBool b (AllWithin (λ i. inner i ≡ first) inner_cells 0 (length inner_cells)) ((k : ℕ) × (k < length inner_cells) × HoldsAt (λ i. inner i ≢ first) inner_cells k)
+        → b ≡ still r caps up down x
+    inner_decide same true every = all_same same (λ i h. rw (place i h) at (every i 0 zero-le (rw many (omega arith))))
+    inner_decide same false (k, h, other) =
+        let l = rw many at h in
+        inner_differs k (omega arith) (rw (place k (omega arith)) at (other 0))

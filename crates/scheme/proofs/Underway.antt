@@ -1,7 +1,7 @@
 -- A run after t of its steps, for any lawful flow: the cells and the sums so far.
 use mathlib.Core.Path.{◌≡◌, ◌∙◌, refl, sym, ap}
 use mathlib.Core.List.{List, [], ◌∷◌}
-use Prim.Native.Nat.{ℕ, suc, ◌+◌, ◌*◌, ◌≤◌, ◌<◌, zero-le}
+use Prim.Native.Nat.{ℕ, suc, ◌+◌, ◌*◌, ◌≤◌, ◌<◌, min, zero-le}
 use native.Mathlib.Nat.{le_trans}
 use native.Mathlib.Numerals.{add-one}
 use native.Mathlib.Omega.{arith}
@@ -78,15 +78,17 @@ module _ {j c : ℕ} {F : ℕ → ℕ → ℕ → ℕ → ℕ} (laws : AlwaysLaw
         out_small = omega (arith, leaving_small (laws t) u d xs now.below k, s.left, now.out_small);
       }
 
-  pub turns : (ys : List ℕ) (m : Moved) → t < length ups → t < length downs → get_or ups t 0 ≤ j
-      → Stepped (F t) (get_or ups t 0) (get_or downs t 0) xs ys m → RunUnderway j F ups downs old ys (in_sum + m.entered) (out_sum + m.left) (t + 1)
-  turns = rw (add-one t) turn
+  -- the same, with the ends, the sums and the number of steps as the code has them
+  pub turns : (ys : List ℕ) (m : Moved) {u d more_in more_out n : ℕ} → t < length ups → t < length downs → u ≡ get_or ups t 0 → d ≡ get_or downs t 0 → u ≤ j
+      → Stepped (F t) u d xs ys m → more_in ≡ m.entered → more_out ≡ m.left → n ≡ t + 1 → RunUnderway j F ups downs old ys (in_sum + more_in) (out_sum + more_out) n
+  turns ys m hu hd up down k s ins outs n =
+      rw (ins, outs, n, add-one t) (turn ys m hu hd (rw up at k) (rw (up, down) at s))
 
 -- all steps made, on a road
 pub ends : {r : Road} {caps ups downs old xs : List ℕ} {in_sum out_sum t : ℕ} → RunUnderway r.jam (λ s. moved r caps) ups downs old xs in_sum out_sum t
-    → length ups ≤ t → length downs ≤ t → Ran r caps ups downs old xs record { entered = in_sum; left = out_sum }
+    → t ≡ min (length ups) (length downs) → length downs ≡ length ups → Ran r caps ups downs old xs record { entered = in_sum; left = out_sum }
 unfolding round_run entered left
-ends {ups = ups} {downs = downs} {t = t} now h g =
-    let all = take_all t ups h in
-    let both = take_all t downs g in
+ends {ups = ups} {downs = downs} {t = t} now e same =
+    let all = take_all t ups (omega arith) in
+    let both = take_all t downs (omega arith) in
     record { cells = rw (all, both) at now.cells_now; entered = rw (all, both) at now.entered_now; left = rw (all, both) at now.left_now }

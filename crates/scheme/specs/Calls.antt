@@ -1,9 +1,7 @@
 -- What the calls of this crate ask and promise.
 use Rattle.std.specs.Prelude.{◌≡◌, List, ℕ, ◌+◌, ◌≤◌, ◌<◌, length, get_or}
 use Rattle.road.specs.Ceilings.{horizon_ceiling}
-use Rattle.road.specs.Judgement.{Accepted}
 use Rattle.road.specs.declared.Road.{Road}
-use Rattle.flux.specs.Pace.{pace_of}
 use Rattle.flux.specs.declared.pace.Pace.{Pace}
 use Rattle.scheme.specs.Advance.{entering, leaving, stepped}
 use Rattle.scheme.specs.Sums.{Below}
@@ -14,15 +12,13 @@ use Rattle.scheme.specs.declared.settling.Settled.{Settled}
 use Rattle.scheme.specs.declared.one_step.Moved.{Moved}
 use Rattle.scheme.specs.declared.many_steps.Totals.{Totals}
 
--- what a step, a test of stillness and a settling run ask: a pace that was made of an accepted road, a cap for each face, at least one cell, cells and ends in range
+-- what a step, a test of stillness and a settling run ask: a cap for each face, at least one cell, cells and ends in range
 pub record Ready (p : Pace) (caps xs : List ℕ) (up down : ℕ) : Type 0 where
-  pub accepted : Accepted p.road
-  pub pace_of_road : p ≡ pace_of p.road
   pub caps_long : length caps ≡ length xs + 1
   pub some : 0 < length xs
-  pub below : Below p.road.jam xs
-  pub up_high : up ≤ p.road.jam
-  pub down_high : down ≤ p.road.jam
+  pub below : Below p.road.road.jam xs
+  pub up_high : up ≤ p.road.road.jam
+  pub down_high : down ≤ p.road.road.jam
 
 -- and a run: so for each pair of its end lists, and past them for ends of 0; the lists are of one length within the ceiling
 pub record ReadyToRun (p : Pace) (caps xs ups downs : List ℕ) : Type 0 where

@@ -20,16 +20,16 @@ pub fn run(
     downstream: &[u32],
 ) -> Totals
     requires { ReadyToRun pace caps.now cells.old upstream.now downstream.now }
-    ensures { Ran pace.road caps.now upstream.now downstream.now cells.old cells.new result }
+    ensures { Ran pace.road.road caps.now upstream.now downstream.now cells.old cells.new result }
 {
-    let mut entered: u64 = 0;
-    let mut left: u64 = 0;
-    let mut t = 0;
-    while t < upstream.len() {
-        let moved = step(pace, caps, cells, upstream[t], downstream[t]);
-        entered += moved.entered as u64;
-        left += moved.left as u64;
-        t += 1;
+    let mut totals = Totals {
+        entered: 0,
+        left: 0,
+    };
+    for (up, down) in upstream.iter().zip(downstream) {
+        let moved = step(pace, caps, cells, *up, *down);
+        totals.entered += u64::from(moved.entered);
+        totals.left += u64::from(moved.left);
     }
-    Totals { entered, left }
+    totals
 }

@@ -6,7 +6,7 @@ ghost use Rattle.scheme.specs.Calls.{Ready, SettledTo};
 use super::one_step::step;
 use flux::Pace;
 
-// Whether a run settled, and the number of steps that it made.
+// Whether a run settled, and the number of steps that it made: no enum of the two, since the steps are told either way.
 #[derive(Clone, Copy)]
 pub struct Settled {
     pub settled: bool,
@@ -17,7 +17,7 @@ pub struct Settled {
 // all faces have to move the same units. Both ends come first: they seldom agree, and unless they do no other face is worked.
 fn is_still(pace: Pace, caps: &[u32], cells: &[u32], up: u32, down: u32) -> bool
     requires { Ready pace caps.now cells.now up down }
-    ensures { result ≡ still pace.road caps.now up down cells.now }
+    ensures { result ≡ still pace.road.road caps.now up down cells.now }
 {
     let n = cells.len();
     let first = pace.flow(up, cells[0], caps[0]);
@@ -25,15 +25,7 @@ fn is_still(pace: Pace, caps: &[u32], cells: &[u32], up: u32, down: u32) -> bool
     if last != first {
         return false;
     }
-    let mut i = 0;
-    while i + 1 < n {
-        let inner = pace.flow(cells[i], cells[i + 1], caps[i + 1]);
-        if inner != first {
-            return false;
-        }
-        i += 1;
-    }
-    true
+    (0..n - 1).all(|i| pace.flow(cells[i], cells[i + 1], caps[i + 1]) == first)
 }
 
 // Internal: the list then holds the state that the settling run hands back.
@@ -46,10 +38,9 @@ pub fn settle(
     horizon: u32,
 ) -> Settled
     requires { Ready pace caps.now cells.old up down }
-    ensures { SettledTo pace.road caps.now up down horizon cells.old cells.new result }
+    ensures { SettledTo pace.road.road caps.now up down horizon cells.old cells.new result }
 {
-    let mut steps = 0;
-    while steps < horizon {
+    for steps in 0..horizon {
         if is_still(pace, caps, cells, up, down) {
             return Settled {
                 settled: true,
@@ -57,10 +48,9 @@ pub fn settle(
             };
         }
         step(pace, caps, cells, up, down);
-        steps += 1;
     }
     Settled {
         settled: false,
-        steps,
+        steps: horizon,
     }
 }

@@ -15,7 +15,7 @@ use Rattle.floats.proofs.Slower.{slower_of, slower_passes}
 use Rattle.floats.proofs.Between.{from_up_to}
 use Rattle.road.specs.Judgement.{road_checks, Accepted}
 use Rattle.road.specs.declared.Road.{Road}
-use Rattle.refusal.specs.declared.Refusal.{Refusal}
+use Rattle.refusal.specs.Outcome.{Outcome}
 use Rattle.refusal.specs.Table.{Check, check, judge}
 use Rattle.refusal.proofs.Table.{◌&◌, no_place, none_holds, check_returned, failing_left_out, first_part_stands}
 use Rattle.road.proofs.Acceptance.{accepted_by, road_passes}
@@ -25,8 +25,8 @@ use Rattle.candidate.proofs.CandidateAnswers.{finite_of, of_finite}
 use Rattle.station.specs.declared.stations.StationReading.{StationReading}
 use Rattle.station.specs.declared.stations.StationReading.TheVariants.{Density, FlowAndSpeed, Speed}
 use Rattle.station.specs.declared.stations.Estimate.{Estimate}
-use Rattle.station.specs.declared.stations.StationAnswer.{StationAnswer}
-use Rattle.station.specs.declared.stations.StationAnswer.TheVariants.{Done, Refused}
+use Rattle.station.specs.Answers.{StationAnswer}
+use Rattle.refusal.specs.Answer.{Done, Refused}
 use Rattle.station.specs.Station as S
 use Rattle.station.proofs.LoneSpeed.{speed_range}
 
@@ -116,7 +116,7 @@ lone_judged r s = by_number (judge (first_checks r (Speed s))).number refl
 
 lone_never_18 : (r : Road) (x : StationReading) (s : Float) → x ≡ Speed s → (S.station_refusal r x).number ≡ 18 → ⊥
 lone_never_18 r x s q e =
-    true≢false (sym (check_returned (first_checks r (Speed s)) tt 18 (zero-lt-suc 17) (ap (λ (f : Refusal). f.number) (sym (ap (S.station_refusal r) q ∙ lone_judged r s)) ∙ e)).0)
+    true≢false (sym (check_returned (first_checks r (Speed s)) tt 18 (zero-lt-suc 17) (ap (λ (f : Outcome). f.number) (sym (ap (S.station_refusal r) q ∙ lone_judged r s)) ∙ e)).0)
 
 -- what an accepted answer carries is what it says
 same_estimate : {d e : Estimate} → ◌≡◌ {A = StationAnswer} (Done d) (Done e) → d.density ≡ e.density
@@ -144,17 +144,17 @@ module _ (r : Road) (x : StationReading) where
   }
 
   -- refused: the number and place of the table
-  pub station_refused : (f : Refusal) → f ≡ S.station_refusal r x → (f.number ≡ 0 → ⊥) → S.Stations r x (Refused f)
+  pub station_refused : (f : Outcome) → f ≡ S.station_refusal r x → (f.number ≡ 0 → ⊥) → S.Stations r x (Refused f)
   unfolding S.station_answer S.station_meaning
   station_refused f e n =
       let k = refuses station_call e n in
       record {
         answer = rw k.no (ap Refused e);
-        means = rw k.no (ap (λ (g : Refusal). S.meaning (Refused g)) e);
+        means = rw k.no (ap (λ (g : Outcome). S.meaning (Refused g)) e);
         judged = k.judged;
         feeds = λ d q. absurd (true≢false (cc q));
         lone_speed = λ s given d q. absurd (true≢false (cc q));
-        never_18 = λ s given q. lone_never_18 r x s given (ap (λ (g : Refusal). g.number) (sym e) ∙ q);
+        never_18 = λ s given q. lone_never_18 r x s given (ap (λ (g : Outcome). g.number) (sym e) ∙ q);
       }
 
   -- accepted: the estimate

@@ -6,14 +6,14 @@ use Rattle.choice.specs.Choice.{or}
 use Rattle.refusal.specs.Table.{Check, check, judge, refused, Judged, unless_refused}
 use Rattle.road.specs.Judgement.{road_checks, Accepted}
 use Rattle.road.specs.declared.Road.{Road}
-use Rattle.refusal.specs.declared.Refusal.{Refusal}
+use Rattle.refusal.specs.Outcome.{Outcome}
 use Rattle.floats.specs.Worth.{FiniteUpTo, FiniteFrom, NotBelow0, Above0, SlowerThan}
 use Rattle.candidate.specs.Candidate.{bad_estimate}
 use Rattle.station.specs.declared.stations.StationReading.{StationReading}
 use Rattle.station.specs.declared.stations.StationReading.TheVariants.{Density, FlowAndSpeed, Speed}
 use Rattle.station.specs.declared.stations.Estimate.{Estimate}
-use Rattle.station.specs.declared.stations.StationAnswer.{StationAnswer}
-use Rattle.station.specs.declared.stations.StationAnswer.TheVariants.{Done, Refused}
+use Rattle.station.specs.Answers.{StationAnswer}
+use Rattle.refusal.specs.Answer.{Done, Refused}
 
 -- a whole number of the road, as a float
 abbrev pub whole : ℕ → Float
@@ -74,7 +74,7 @@ given_checks r x = given_check x ∷ fast_check r x ∷ result_check r x ∷ []
 abbrev pub station_checks : Road → StationReading → List Check
 station_checks r x = road_checks r ++ given_checks r x
 
-unfoldable pub station_refusal : Road → StationReading → Refusal
+unfoldable pub station_refusal : Road → StationReading → Outcome
 station_refusal r x = judge (station_checks r x)
 
 unfoldable pub station_answer : Road → StationReading → StationAnswer
@@ -118,7 +118,7 @@ pub record StationChecked (r : Road) (x : StationReading) : Type 0 where
   pub finite : FiniteUpTo r.jam (estimate_of r x)
 
 -- demand 1 of a refusal, of the station's checks: every place is 0
-abbrev pub StationJudged : Road → StationReading → Refusal → Type 0
+abbrev pub StationJudged : Road → StationReading → Outcome → Type 0
 StationJudged r x f = Judged (station_checks r x) (StationChecked r x) (λ g. g.place ≡ 0) f
 
 -- what the call promises; an estimate that comes back is a finite number from 0 to J, so that candidate prediction accepts it on the same road

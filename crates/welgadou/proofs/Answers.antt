@@ -5,7 +5,7 @@ use native.Mathlib.Omega.{arith}
 use lib.Dec.{eqb}
 use borrow.Author.Tests.{eq-eqb, ne_eqb}
 use Rattle.choice.specs.Choice.{pick}
-use Rattle.refusal.specs.declared.Refusal.{Refusal}
+use Rattle.refusal.specs.Outcome.{Outcome}
 use Rattle.welgadou.specs.Parts.{written}
 
 -- what the answer means that was matched is what the call's definition says
@@ -13,7 +13,7 @@ pub meaning_along : {A M : Type 0} {a b : A} {defined : M} (meaning : A → M) �
 meaning_along meaning e means = ap meaning (sym e) ∙ means
 
 -- demand 1 of the answer below holds of the answer that was matched
-pub judged_told : {A : Type 0} {a b : A} (judged : Refusal → Type 0) (refusal : A → Refusal) → a ≡ b → judged (refusal a) → judged (refusal b)
+pub judged_told : {A : Type 0} {a b : A} (judged : Outcome → Type 0) (refusal : A → Outcome) → a ≡ b → judged (refusal a) → judged (refusal b)
 judged_told {A} judged refusal e h = subst (λ (x : A). judged (refusal x)) e h
 
 -- a call's answer is `done` where the refusal's number is 0, else `refused`: so where it is not `done` the number is not 0

@@ -5,14 +5,14 @@ use Prim.Native.Nat.{ℕ}
 use lib.ListN.{length}
 use Rattle.refusal.specs.Table.{refused}
 use Rattle.road.specs.declared.Road.{Road}
-use Rattle.refusal.specs.declared.Refusal.{Refusal}
+use Rattle.refusal.specs.Outcome.{Outcome}
 use Rattle.scheme.specs.declared.many_steps.Totals.{Totals}
 use Rattle.scheme.specs.declared.settling.Settled.{Settled}
 use Rattle.forecast.specs.declared.forecasting.Record.{Record}
-use Rattle.forecast.specs.declared.forecasting.ForecastAnswer.{ForecastAnswer}
-use Rattle.forecast.specs.declared.forecasting.ForecastAnswer.TheVariants as F
-use Rattle.forecast.specs.declared.settling.SettleAnswer.{SettleAnswer}
-use Rattle.forecast.specs.declared.settling.SettleAnswer.TheVariants as S
+use Rattle.forecast.specs.Answers.{ForecastAnswer}
+use Rattle.refusal.specs.Answer as F
+use Rattle.forecast.specs.Answers.{SettleAnswer}
+use Rattle.refusal.specs.Answer as S
 use Rattle.forecast.specs.Forecast as Forecast
 use Rattle.forecast.specs.Forecast.{forecast_answer, forecast_meaning, ForecastJudged}
 use Rattle.forecast.specs.Settle as Settle
@@ -43,7 +43,7 @@ module _ {r : Road} {caps cells ups downs : List ℕ} {t : ℕ} {totals : Totals
         carried = λ z. forecasts.carried d e;
       }
 
-  pub forecast_refused : {f : Refusal} {entered left : ℕ} → a ≡ F.Refused f → Forecasted r caps cells ups downs t out next entered entered left left totals totals f.place f.number
+  pub forecast_refused : {f : Outcome} {entered left : ℕ} → a ≡ F.Refused f → Forecasted r caps cells ups downs t out next entered entered left left totals totals f.place f.number
   unfolding forecast_answer forecast_meaning
   forecast_refused {f} e =
       let m = meaning_along Forecast.meaning e forecasts.means in
@@ -81,7 +81,7 @@ module _ {r : Road} {caps cells : List ℕ} {up down t : ℕ} {out next : List �
         settlement = λ z. (d.settled, q, settles.settlement d e);
       }
 
-  pub settle_refused : {f : Refusal} {settled steps : ℕ} → a ≡ S.Refused f → SettledRun r caps cells up down t out next settled settled steps steps f.place f.number
+  pub settle_refused : {f : Outcome} {settled steps : ℕ} → a ≡ S.Refused f → SettledRun r caps cells up down t out next settled settled steps steps f.place f.number
   unfolding settle_answer settle_meaning
   settle_refused {f} e =
       let m = meaning_along Settle.meaning e settles.means in

@@ -10,20 +10,20 @@ use lib.ListN.{length}
 use borrow.Author.Tests.{eq-eqb}
 use Rattle.refusal.specs.Table.{refused}
 use Rattle.road.specs.declared.Road.{Road}
-use Rattle.refusal.specs.declared.Refusal.{Refusal}
-use Rattle.modes.specs.declared.reading.ReadAnswer.{ReadAnswer}
-use Rattle.modes.specs.declared.reading.ReadAnswer.TheVariants as R
+use Rattle.refusal.specs.Outcome.{Outcome}
+use Rattle.modes.specs.Answers.{ReadAnswer}
+use Rattle.refusal.specs.Answer as R
 use Rattle.modes.specs.declared.reading.StateReading.{StateReading}
 use Rattle.modes.specs.declared.fitting.FitResult.{FitResult}
-use Rattle.modes.specs.declared.fitting.FitAnswer.{FitAnswer}
-use Rattle.modes.specs.declared.fitting.FitAnswer.TheVariants as F
-use Rattle.rows.specs.declared.prediction.PredictAnswer.{PredictAnswer}
+use Rattle.modes.specs.Answers.{FitAnswer}
+use Rattle.refusal.specs.Answer as F
+use Rattle.rows.specs.Answers.{PredictAnswer}
 use Rattle.candidate.specs.declared.candidates.CandidateResult.{CandidateResult}
-use Rattle.candidate.specs.declared.candidates.CandidateAnswer.{CandidateAnswer}
-use Rattle.candidate.specs.declared.candidates.CandidateAnswer.TheVariants as C
+use Rattle.candidate.specs.Answers.{CandidateAnswer}
+use Rattle.refusal.specs.Answer as C
 use Rattle.counting.specs.declared.counting.WordCount.{WordCount}
-use Rattle.counting.specs.declared.counting.CountAnswer.{CountAnswer}
-use Rattle.counting.specs.declared.counting.CountAnswer.TheVariants as W
+use Rattle.counting.specs.Answers.{CountAnswer}
+use Rattle.refusal.specs.Answer as W
 use Rattle.modes.specs.Reading.{read_number, read_place, read_answer, ReadJudged, Reads}
 use Rattle.modes.specs.Fit as Fit
 use Rattle.modes.specs.Fit.{fit_answer, fit_meaning, FitJudged}
@@ -55,7 +55,7 @@ module _ {r : Road} {cells : List ℕ} {up down : ℕ} {letters letters-next mod
     state = λ z. reads.state e;
   }
 
-  pub read_refused : {f : Refusal} {counts : List ℕ} {queued : ℕ} → a.answer ≡ R.Refused f
+  pub read_refused : {f : Outcome} {counts : List ℕ} {queued : ℕ} → a.answer ≡ R.Refused f
       → StateRead r cells up down letters letters-next modes modes-next counts counts queued queued f.place f.number
   unfolding read_answer
   read_refused {f} e =
@@ -89,7 +89,7 @@ module _ {r : Road} {cells : List ℕ} {up down : ℕ} {word : List ℕ} {a : Fi
         state = λ z. (d.holds, q, fits.state d e);
       }
 
-  pub fit_refused : {f : Refusal} {holds face : ℕ} → a ≡ F.Refused f → WordFitted r cells up down word holds holds face face f.place f.number
+  pub fit_refused : {f : Outcome} {holds face : ℕ} → a ≡ F.Refused f → WordFitted r cells up down word holds holds face face f.place f.number
   unfolding fit_answer fit_meaning
   fit_refused {f} e =
       let m = meaning_along Fit.meaning e fits.means in
@@ -148,7 +148,7 @@ module _ {r : Road} {mode byte : ℕ} {left own right : Float} {a : CandidateAns
         plain = λ z. candidates.plain d e;
       }
 
-  pub candidate_refused : {f : Refusal} {numerator : Float} → a ≡ C.Refused f → CandidatePredicted r mode left own right numerator numerator f.place f.number
+  pub candidate_refused : {f : Outcome} {numerator : Float} → a ≡ C.Refused f → CandidatePredicted r mode left own right numerator numerator f.place f.number
   unfolding candidate_answer candidate_meaning
   candidate_refused {f} e =
       let m = meaning_along Candidate.meaning e candidates.means in
@@ -179,7 +179,7 @@ module _ {cells : ℕ} {a : CountAnswer} (called : Count.CountsWords cells a) wh
         counted = λ z. called.counted d e;
       }
 
-  pub count_refused : {f : Refusal} {words : ℕ} → a ≡ W.Refused f → WordsCounted cells words words f.place f.number
+  pub count_refused : {f : Outcome} {words : ℕ} → a ≡ W.Refused f → WordsCounted cells words words f.place f.number
   unfolding count_answer count_meaning
   count_refused {f} e =
       let m = meaning_along Count.meaning e called.means in

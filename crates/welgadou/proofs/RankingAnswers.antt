@@ -7,7 +7,7 @@ use lib.ListN.{length}
 use borrow.Author.Tests.{eq-eqb}
 use Rattle.refusal.specs.Table.{refused}
 use Rattle.road.specs.declared.Road.{Road}
-use Rattle.nearest.specs.declared.ranking.NearestAnswer.{NearestAnswer}
+use Rattle.nearest.specs.Answers.{NearestAnswer}
 use Rattle.nearest.specs.Nearest.{nearest_answer, nearest_number, nearest_place, NearestJudged, Nearests}
 use Rattle.welgadou.specs.Rankings.{NearestRanked}
 use Rattle.welgadou.proofs.Answers.{meaning_along, judged_told}

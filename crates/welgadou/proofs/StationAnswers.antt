@@ -3,12 +3,12 @@ use mathlib.Core.Path.{◌≡◌, ◌∙◌, sym, ap}
 use native.Mathlib.Omega.{arith}
 use lib.Ieee.{Float}
 use Rattle.refusal.specs.Table.{refused}
-use Rattle.refusal.specs.declared.Refusal.{Refusal}
+use Rattle.refusal.specs.Outcome.{Outcome}
 use Rattle.road.specs.declared.Road.{Road}
 use Rattle.station.specs.declared.stations.StationReading.{StationReading}
 use Rattle.station.specs.declared.stations.Estimate.{Estimate}
-use Rattle.station.specs.declared.stations.StationAnswer.{StationAnswer}
-use Rattle.station.specs.declared.stations.StationAnswer.TheVariants.{Done, Refused}
+use Rattle.station.specs.Answers.{StationAnswer}
+use Rattle.refusal.specs.Answer.{Done, Refused}
 use Rattle.station.specs.Station as Station
 use Rattle.station.specs.Station.{station_answer, station_meaning, StationJudged}
 use Rattle.welgadou.specs.Stations.{StationEstimated}
@@ -31,7 +31,7 @@ module _ {r : Road} {x : StationReading} {a : StationAnswer} (called : Station.S
         never_18 = λ s given z. omega arith;
       }
 
-  pub station_refused : {f : Refusal} {estimate : Float} → a ≡ Refused f → StationEstimated r x estimate estimate f.place f.number
+  pub station_refused : {f : Outcome} {estimate : Float} → a ≡ Refused f → StationEstimated r x estimate estimate f.place f.number
   unfolding station_answer station_meaning
   station_refused {f} e =
       let m = meaning_along Station.meaning e called.means in

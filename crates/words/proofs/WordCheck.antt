@@ -9,7 +9,7 @@ use lib.ListN.{length}
 use borrow.Author.Tests.{eq-eqb, ne_eqb, eqb-true, eqb-false, not-true, not-false}
 use Rattle.road.specs.declared.Road.{Road}
 use Rattle.refusal.specs.Table.{Check}
-use Rattle.refusal.specs.declared.Refusal.{Refusal}
+use Rattle.refusal.specs.Outcome.{Outcome}
 use Rattle.refusal.proofs.Table.{Passing, ◌&◌}
 use Rattle.choice.proofs.Choice.{or_left, or_right}
 use Rattle.checks.specs.Values.{first_index_above, any_above}
@@ -75,7 +75,7 @@ module _ (r : Road) (cells : List ℕ) (up down : ℕ) (word : List ℕ) where
       state_passes r cells up down s outputs (word_check (length cells) word ∷ []) o (word_passes (length cells) word long ok & tt)
 
   -- the places of a call with these checks, as they were returned
-  pub pair_word_placed : (f : Refusal) → (f.number ≡ 9 → (any_above r.jam cells ≡ true) × (first_index_above r.jam cells + 1 ≡ f.place))
+  pub pair_word_placed : (f : Outcome) → (f.number ≡ 9 → (any_above r.jam cells ≡ true) × (first_index_above r.jam cells + 1 ≡ f.place))
       → (f.number ≡ 10 → (any_above r.jam (up ∷ []) ≡ true) × (first_index_above r.jam (up ∷ []) ≡ f.place))
       → (f.number ≡ 11 → (any_above r.jam (down ∷ []) ≡ true) × (first_index_above r.jam (down ∷ []) ≡ f.place))
       → (f.number ≡ 12 → (bad_word (length cells) word ≡ true) × (word_place (length cells) word ≡ f.place)) → PairWordPlaced r cells up down word f

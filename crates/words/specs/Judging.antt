@@ -2,7 +2,7 @@
 use Rattle.std.specs.Prelude.{Bool, not, List, [], ◌∷◌, ◌++◌, ℕ, ◌+◌, eqb, length}
 use Rattle.choice.specs.Choice.{pick, or}
 use Rattle.refusal.specs.Table.{Check, check, judge}
-use Rattle.refusal.specs.declared.Refusal.{Refusal}
+use Rattle.refusal.specs.Outcome.{Outcome}
 use Rattle.road.specs.declared.Road.{Road}
 use Rattle.checks.specs.Checks.{pair_checks}
 use Rattle.checks.specs.State.{state_shape_checks}
@@ -29,5 +29,5 @@ abbrev pub state_word_checks : Road → List ℕ → ℕ → ℕ → List ℕ �
 state_word_checks r cells up down word outputs = state_shape_checks r (length cells) outputs ++ pair_word_checks r cells up down word
 
 -- what they come to, where it is known whether the outputs are bad
-unfoldable pub state_word_refusal : Road → List ℕ → ℕ → ℕ → List ℕ → Bool → Refusal
+unfoldable pub state_word_refusal : Road → List ℕ → ℕ → ℕ → List ℕ → Bool → Outcome
 state_word_refusal r cells up down word bad = judge (state_word_checks r cells up down word (check bad 8 0 ∷ []))

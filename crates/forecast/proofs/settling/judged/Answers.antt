@@ -1,24 +1,16 @@
--- `forecast::judged` of the settling run meets its contract: a refusal of the shape stands, and below it the cells and the pair are judged.
-use Rattle.std.proofs.Common.{length}
-use Rattle.refusal.proofs.Parts.{same_number, part_goes_on}
+-- `forecast::judged` of the settling run meets its contract: a refusal of the road is the whole table's.
+use Rattle.std.proofs.Common.{◌++◌, length}
+use Rattle.refusal.proofs.Results.{err_told, refusal_stands}
+use Rattle.road.specs.Judgement.{road_checks, road_refusal}
 use Rattle.checks.specs.Checks.{pair_checks}
-use Rattle.forecast.specs.Settle.{settle_shape_checks, settle_shape_refusal, settle_refusal}
-use Rattle.forecast.proofs.Checked.{settle_shape_stands, settle_shape_short}
+use Rattle.forecast.specs.Settle.{settle_list_checks, settle_refusal}
 use Rattle.forecast.proofs.settling.judged.Goals as goal
 
-pub returns-then-shape-ne0 : goal.returns-then-shape-ne0
-returns-then-shape-ne0 c =
-    settle_shape_stands c.args.road c.args.caps.now c.args.cells.now c.args.up c.args.down c.args.horizon c.args.out
-    c.judged_shape-shape.result c.judged_shape-shape.ensures c.if-shape-ne0.true
-
--- past the branch the shape is right, so that the cells are few
-pub or_pair-requires : goal.or_pair-requires
-or_pair-requires c =
-    settle_shape_short c.args.road c.args.caps.now c.args.cells.now c.args.up c.args.down c.args.horizon c.args.out
-    (same_number c.judged_shape-shape.ensures c.if-shape-ne0.false)
-
-pub returns : goal.returns
-unfolding settle_shape_refusal settle_refusal
-returns c =
-    part_goes_on (settle_shape_checks c.args.road (length c.args.caps.now) (length c.args.cells.now) c.args.horizon c.args.out)
-    (pair_checks c.args.road c.args.cells.now c.args.up c.args.down) c.judged_shape-shape.ensures c.or_pair.ensures
+pub returns-in_err-road-clause-refusal : goal.returns-in_err-road-clause-refusal
+unfolding settle_refusal road_refusal
+returns-in_err-road-clause-refusal c =
+    let a = c.args in
+    err_told c.in_err-road.field-0.0 c.from_residual.result c.from_residual.ensures.1
+    (refusal_stands c.in_err-road.field-0.0 (road_checks a.road)
+    (settle_list_checks (length a.caps.now) (length a.cells.now) a.horizon a.out ++ pair_checks a.road a.cells.now a.up a.down)
+    c.in_err-road.ensures.refusal)

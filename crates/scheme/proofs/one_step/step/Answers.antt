@@ -1,6 +1,5 @@
 -- `scheme::step` meets its contract: the loop keeps `StepUnderway`, and its end is the whole step.
-use Rattle.std.proofs.Common.{◌≡◌, ℕ, suc, ◌+◌, ◌∙◌, ap, length, get_or, arith}
-use Rattle.scheme.specs.Rounded.{moved}
+use Rattle.std.proofs.Common.{◌+◌, ◌-◌, length, get_or, arith}
 use Rattle.scheme.proofs.Range.{out_holds}
 use Rattle.scheme.proofs.Laws.{lawful}
 use Rattle.scheme.proofs.InPlace.{begins, turns, ends}
@@ -10,26 +9,23 @@ use Rattle.scheme.proofs.one_step.step.Goals as goal
 -- the loop's turn and the end stand first: a wrong step fails there
 pub loop-i-preserved : goal.loop-i-preserved
 loop-i-preserved c =
-    turns (lawful c.requires) c.loop-i.invariant (let n = c.loop-i.invariant.long in omega arith) c.flow-out.ensures
+    turns (lawful c.args.pace c.args.caps.now) c.loop-i.invariant (let n = c.loop-i.invariant.long in omega arith) c.flow-out.ensures
 
 pub returns : goal.returns
 returns c =
-    let now = c.loop-i.invariant in
-    let last : length c.args.cells.now ≡ suc c.loop-i.i = let n = now.long in let h = now.inside in omega arith in
-    let stepped = ends (lawful c.requires) now (let n = now.long in omega arith)
-    (c.flow-last.ensures ∙ ap (λ (k : ℕ). moved c.args.pace.road c.args.caps.now k (get_or c.loop-i.cells c.loop-i.i 0) c.args.down) last) in
-    record { stepped = stepped; stepped_by_faces = step_faces c.args.pace.road c.args.caps.now c.requires.accepted stepped }
+    let stepped = ends (lawful c.args.pace c.args.caps.now) c.loop-i.invariant c.loop-i-test.false c.flow-last.ensures in
+    record { stepped = stepped; stepped_by_faces = step_faces c.args.pace.road.road c.args.caps.now c.args.pace.road.accepted stepped }
 
 pub loop-i-init : goal.loop-i-init
 loop-i-init c =
-    begins (lawful c.requires) c.args.up c.args.down c.args.cells.now c.requires.some c.requires.below c.flow-first.ensures
+    begins (lawful c.args.pace c.args.caps.now) c.args.up c.args.down c.args.cells.now c.requires.some c.requires.below c.flow-first.ensures
 
 pub overflow_sub-cells : goal.overflow_sub-cells
 overflow_sub-cells c =
     omega (
       arith,
       c.flow-out.ensures,
-      out_holds (lawful c.requires) (c.loop-i.i + 1) (get_or c.loop-i.cells c.loop-i.i 0) (get_or c.loop-i.cells (c.loop-i.i + 1) 0),
+      out_holds (lawful c.args.pace c.args.caps.now) (c.loop-i.i + 1) (get_or c.loop-i.cells c.loop-i.i 0) (get_or c.loop-i.cells (c.loop-i.i + 1) 0),
     )
 
 pub overflow_sub-cells-2 : goal.overflow_sub-cells-2
@@ -37,5 +33,5 @@ overflow_sub-cells-2 c =
     omega (
       arith,
       c.flow-last.ensures,
-      out_holds (lawful c.requires) (length c.args.cells.now) (get_or c.loop-i.cells c.loop-i.i 0) c.args.down,
+      out_holds (lawful c.args.pace c.args.caps.now) (length c.args.cells.now) (get_or c.loop-i.cells (length c.args.cells.now - 1) 0) c.args.down,
     )

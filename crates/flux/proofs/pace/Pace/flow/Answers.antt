@@ -6,42 +6,40 @@ use Rattle.flux.proofs.pace.Pace.flow.Goals as goal
 
 pub least-requires-clause-a_bound : goal.least-requires-clause-a_bound
 least-requires-clause-a_bound c =
-    let s = c.requires in
-    omega (arith, c.part-sent.ensures, send_small c.args.self s.accepted s.self_value c.args.a (le_trans s.a_le_jam s.accepted.jam_high))
+    let p = c.args.self in
+    omega (arith, c.part-sent.ensures, send_small p c.args.a (le_trans c.requires.a_le_jam p.road.accepted.jam_high))
 
 pub least-requires-clause-b_bound : goal.least-requires-clause-b_bound
 least-requires-clause-b_bound c =
-    let s = c.requires in
+    let p = c.args.self in
     omega (
       arith,
       c.part-received.ensures,
-      receive_small c.args.self s.accepted s.self_value (c.args.self.road.jam - c.args.b) (let j = s.accepted.jam_high in omega arith),
+      receive_small p (p.road.road.jam - c.args.b) (let j = p.road.accepted.jam_high in omega arith),
     )
 
 pub least-requires-2-clause-a_bound : goal.least-requires-2-clause-a_bound
 least-requires-2-clause-a_bound c =
-    let s = c.requires in
+    let p = c.args.self in
     omega (
       arith,
       c.least.ensures,
       c.part-sent.ensures,
-      send_small c.args.self s.accepted s.self_value c.args.a (le_trans s.a_le_jam s.accepted.jam_high),
+      send_small p c.args.a (le_trans c.requires.a_le_jam p.road.accepted.jam_high),
     )
 
 pub least-requires-2-clause-b_bound : goal.least-requires-2-clause-b_bound
-least-requires-2-clause-b_bound c =
-    omega (arith, c.smaller-most.ensures, capacity_small c.args.self c.requires.accepted c.requires.self_value)
+least-requires-2-clause-b_bound c = omega (arith, c.min-most.ensures, capacity_small c.args.self)
 
 -- the least of what is sent, what is received, the cap and the capacity
 pub returns : goal.returns
 returns c =
-    let s = c.requires in
     omega (
       arith,
       c.least-2.ensures,
       c.least.ensures,
-      c.smaller-most.ensures,
+      c.min-most.ensures,
       c.part-received.ensures,
       c.part-sent.ensures,
-      paced_flow c.args.self s.accepted s.self_value c.args.a c.args.b s.a_le_jam,
+      paced_flow c.args.self c.args.a c.args.b c.requires.a_le_jam,
     )
