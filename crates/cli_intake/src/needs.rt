@@ -92,14 +92,14 @@ fn has(text: &[u8], action: Action) -> Result<(), Unmet> {
 
 // That a text can be acted on: it asks for something, and for nothing that it does not give what it needs.
 pub fn met(text: &[u8], draws: bool) -> Result<(), Unmet> {
-    if !Action::ALL.iter().any(|action| action.is_asked(text)) {
+    if !Action::ALL.iter().any(|action| is_given(text, action.key())) {
         return Err(Unmet::NoAction);
     }
     if draws && !is_given(text, Key::Forecast) {
         return Err(Unmet::NoForecast);
     }
     for action in Action::ALL {
-        if action.is_asked(text) {
+        if is_given(text, action.key()) {
             has(text, action)?;
         }
     }

@@ -23,5 +23,5 @@ pub fn wrong_value(text: &[u8], line: u64, key: Key) -> &[u8] {
 
 // How many values stand in a line, after its keyword.
 pub fn values(text: &[u8], line: u64) -> usize {
-    words(text, line).skip(1).count()
+    words(text, line).count().saturating_sub(1)
 }

@@ -1,2 +1,3 @@
 -- What a request's definitions are.
+pub mod Actions
 pub mod Status

@@ -1,5 +1,7 @@
 // The actions of a scenario.
-use super::keys::is_given;
+ghost use Rattle.std.specs.Prelude.{◌≡◌};
+ghost use Rattle.cli_request.specs.Actions.{key_of};
+
 use cli_vocabulary::Key;
 
 #[derive(Clone, Copy)]
@@ -32,7 +34,9 @@ impl Action {
     ];
 
     // The key that asks for it.
-    pub fn key(self) -> Key {
+    pub fn key(self) -> Key
+        ensures { result ≡ key_of self }
+    {
         match self {
             Action::Forecast => Key::Forecast,
             Action::Settle => Key::Settle,
@@ -45,10 +49,5 @@ impl Action {
             Action::Station => Key::Station,
             Action::Nearest => Key::Nearest,
         }
-    }
-
-    // Whether a text asks for it.
-    pub fn is_asked(self, text: &[u8]) -> bool {
-        is_given(text, self.key())
     }
 }

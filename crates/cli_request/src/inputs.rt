@@ -1,4 +1,7 @@
 // What a text gives to an action: a state with its ends, or all that a forecast takes.
+ghost use Rattle.std.specs.Prelude.{◌≡◌, IfOk};
+ghost use Rattle.arrayvec.specs.ArrayVec.{array_vec_len};
+
 use super::numbers::{CELLS, ENDS, FACES};
 use super::refusals::{Lengths, Refused};
 use super::{caps, numbers};
@@ -25,7 +28,9 @@ impl State {
     }
 
     // Other cells on the text's road, between its ends.
-    pub fn at(text: &[u8], cells: ArrayVec<u32, CELLS>) -> State {
+    pub fn at(text: &[u8], cells: ArrayVec<u32, CELLS>) -> State
+        ensures { result.cells ≡ cells }
+    {
         let [up, down]: [u32; 2] = numbers::numbers(text, Key::Pair);
         State {
             road: numbers::road(text),
@@ -35,12 +40,14 @@ impl State {
         }
     }
 
-    pub fn refused(&self, refusal: Refusal) -> Refused {
+    // Why its action is refused.
+    pub fn refused(&self, refusal: Refusal) -> Refused
+        ensures { result.cells ≡ array_vec_len self.now.cells }
+    {
+        let cells = self.cells.len();
         Refused {
-            refusal,
-            cells: self.cells.len(),
-            caps: 0,
-            lengths: None,
+            cells,
+            ..Refused::from(refusal)
         }
     }
 }
@@ -73,7 +80,9 @@ impl Forecast {
     }
 
     // The forecast, with the cells after its last step.
-    pub fn made(&self) -> Result<(Record, ArrayVec<u32, CELLS>), Refused> {
+    pub fn made(&self) -> Result<(Record, ArrayVec<u32, CELLS>), Refused>
+        ensures { IfOk result (λ p. array_vec_len p.1 ≡ array_vec_len self.now.cells) }
+    {
         let mut out = numbers::filled(0, self.cells.len());
         let record = forecast::forecast(
             self.road,
@@ -89,7 +98,11 @@ impl Forecast {
         Ok((record, out))
     }
 
-    pub fn refused(&self, refusal: Refusal) -> Refused {
+    // Why its action is refused.
+    pub fn refused(&self, refusal: Refusal) -> Refused
+        ensures cells { result.cells ≡ array_vec_len self.now.cells }
+        ensures caps { result.caps ≡ array_vec_len self.now.caps }
+    {
         Refused {
             refusal,
             cells: self.cells.len(),

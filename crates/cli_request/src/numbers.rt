@@ -1,5 +1,7 @@
 // The values of a text's keys, as the library takes them.
-ghost use Rattle.std.specs.Prelude.{◌<◌, ◌^◌};
+ghost use Rattle.std.specs.Prelude.{◌≡◌, ◌<◌, ◌^◌, length, min, take, replicate};
+ghost use Rattle.arrayvec.specs.ArrayVec.{array_vec_len};
+ghost use Rattle.cli_scenario.specs.Values.{values_of};
 
 use arrayvec::ArrayVec;
 use cli_vocabulary::Key;
@@ -14,9 +16,17 @@ pub const ENDS: usize = Road::HORIZON as usize + 1;
 
 pub const FACES: usize = Road::CELLS as usize + 2;
 
-// A number as the library takes it. A judged text has none that does not fit.
-fn narrowed<T: TryFrom<u64, Error = TryFromIntError> + Default>(x: u64) -> T {
-    T::try_from(x).unwrap_or_default()
+// Numbers as the library takes them. A judged text has none that does not fit.
+fn narrowed<T, const N: usize>(values: [u64; N]) -> [T; N]
+where
+    T: TryFrom<u64, Error = TryFromIntError> + Default + Copy,
+    requires { N < 2 ^ 60 }
+{
+    let mut numbers = [T::default(); N];
+    for (number, value) in numbers.iter_mut().zip(values.iter()) {
+        *number = T::try_from(*value).unwrap_or_default();
+    }
+    numbers
 }
 
 // A key's list, clipped to the room.
@@ -24,36 +34,34 @@ pub fn list<T, const N: usize>(text: &[u8], key: Key) -> ArrayVec<T, N>
 where
     T: TryFrom<u64, Error = TryFromIntError> + Default + Copy + Drop,
     requires { N < 2 ^ 60 }
+    ensures { array_vec_len result ≡ min (length (values_of key text.now)) N }
 {
     let mut values = [0; N];
     let count = cli_scenario::values(text, key, &mut values);
-    let mut list = ArrayVec::new();
-    for value in values.iter().take(count) {
-        let _ = list.try_push(narrowed(*value));
-    }
+    let mut list = ArrayVec::from(narrowed(values));
+    list.truncate(count);
     list
 }
 
 // The numbers of a key that takes so many; 0 where the text has none.
 pub fn numbers<T, const N: usize>(text: &[u8], key: Key) -> [T; N]
 where
-    T: TryFrom<u64, Error = TryFromIntError> + Default + Copy + Drop,
+    T: TryFrom<u64, Error = TryFromIntError> + Default + Copy,
     requires { N < 2 ^ 60 }
 {
     let mut values = [0; N];
     cli_scenario::values(text, key, &mut values);
-    let mut numbers = [T::default(); N];
-    for (number, value) in numbers.iter_mut().zip(values.iter()) {
-        *number = narrowed(*value);
-    }
-    numbers
+    narrowed(values)
 }
 
 // A list of so many values, clipped to the room.
-pub fn filled<T: Default + Copy + Drop, const N: usize>(value: T, count: usize) -> ArrayVec<T, N> {
-    let mut list = ArrayVec::from([value; N]);
-    list.truncate(count);
-    list
+pub fn filled<T: Default + Copy + Drop, const N: usize>(value: T, count: usize) -> ArrayVec<T, N>
+    ensures items { result.items ≡ take count (replicate N value) }
+    ensures len { array_vec_len result ≡ min count N }
+{
+    let mut values = ArrayVec::from([value; N]);
+    values.truncate(count);
+    values
 }
 
 // The road of a text.

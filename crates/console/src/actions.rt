@@ -2,7 +2,7 @@
 use cli_arguments::options::Options;
 use cli_predictions::{candidates, counts, predictions};
 use cli_readings::{fits, states};
-use cli_request::{Action, Refused, Status};
+use cli_request::{Action, Refused, Status, is_given};
 use cli_runs::{forecasts, settlings};
 use cli_site::{rankings, stations};
 use printing::Page;
@@ -54,7 +54,7 @@ fn told<R: Env + Files>(
 pub fn all<R: Env + Files>(rt: &R, page: &mut Page, o: Options, text: &[u8]) -> Status {
     let mut status = Status::Done;
     for action in Action::ALL {
-        if action.is_asked(text) {
+        if is_given(text, action.key()) {
             status = status.worst(told(rt, page, o, text, action));
         }
     }
