@@ -39,10 +39,12 @@ fn judged_pair(road: AcceptedRoad, cells: &[u32], up: u32, down: u32) -> Result<
     if let Some(cell) = first_above(jam, cells) {
         return Err(Refusal::Cell((cell + 1) as u32));
     }
-    if jam < up {
+    let up_is_high = jam < up;
+    let down_is_high = jam < down;
+    if up_is_high {
         return Err(Refusal::Upstream(0));
     }
-    if jam < down {
+    if down_is_high {
         return Err(Refusal::Downstream(0));
     }
     Ok(())

@@ -1,10 +1,10 @@
 -- What a result tells: its answer loses nothing of it, and a refusal's number is above 0.
-use Rattle.std.proofs.Common.{◌≡◌, ◌∙◌, refl, sym, ap, ℕ, ◌<◌, arith, List, [], ◌∷◌, ◌++◌, get_or, Result}
+use Rattle.std.proofs.Common.{◌≡◌, ◌∙◌, refl, sym, ap, ℕ, ◌<◌, arith, List, [], ◌∷◌, ◌++◌, get_or, Result, Ok, Err}
 use Rattle.std.specs.Prelude.{IsErrAnd}
 use Rattle.std.proofs.lemmas.Result.{err_from_is_err_and}
 use Rattle.refusal.specs.Outcome.{Outcome}
-use Rattle.refusal.specs.Table.{Check, judge}
-use Rattle.refusal.specs.Answer.{number_of, place_of, outcome_of, judged_of}
+use Rattle.refusal.specs.Table.{Check, passed, judge}
+use Rattle.refusal.specs.Answer.{Answer, Done, Refused, number_of, place_of, outcome_of, answer_of, judged_of}
 use Rattle.refusal.specs.declared.Refusal.{Refusal}
 use Rattle.refusal.specs.declared.Refusal.TheVariants.{Divisor, Speeds, Densities, Balance, Cells, Horizon, Ends, Output, Cell, Upstream, Downstream, Word, Mode, Estimate, WordCount, StationNumber, StationSpeed, StationDensity, Totals, Caps}
 use Rattle.refusal.proofs.Parts.{part_stands}
@@ -73,3 +73,19 @@ err_told f r is_err e = let p = err_from_is_err_and r is_err in rw (p.1, p.2) e
 -- a refusal by the first part of a table is the whole table's
 pub refusal_stands : (f : Refusal) (checks more : List Check) → outcome_of f ≡ judge checks → outcome_of f ≡ judge (checks ++ more)
 refusal_stands f checks more e = part_stands checks more (outcome_of f) e (λ z. let n = numbered f in omega arith)
+
+-- the answer that a result is loses nothing of it
+given : {A : Type 0} → A → Answer A → A
+given a (Done b) = b
+given a (Refused o) = a
+
+outcome_in : {A : Type 0} → Answer A → Outcome
+outcome_in (Done a) = passed
+outcome_in (Refused o) = o
+
+pub answer_apart : {A : Type 0} (x y : Result A Refusal) → answer_of x ≡ answer_of y → x ≡ y
+unfolding given outcome_in
+answer_apart (Ok a) (Ok b) e = ap (λ (x : Answer _). Ok (given a x)) e
+answer_apart (Ok a) (Err g) e = absurd (let n = numbered g in let z : 0 ≡ number_of g = ap (λ (x : Answer _). (outcome_in x).number) e in omega arith)
+answer_apart (Err f) (Ok b) e = absurd (let n = numbered f in let z : number_of f ≡ 0 = ap (λ (x : Answer _). (outcome_in x).number) e in omega arith)
+answer_apart (Err f) (Err g) e = ap Err (refusal_apart f g (ap outcome_in e))

@@ -8,16 +8,16 @@ pub returns-in-Some : goal.returns-in-Some
 unfolding or_if
 returns-in-Some c = let (above, at) = c.in-Some.ensures in rw (above, at) refl
 
-pub returns-then-jam-up : goal.returns-then-jam-up
+pub returns-then-up_is_high : goal.returns-then-up_is_high
 unfolding or_if
-returns-then-jam-up c = let (above, at) = end_above c.if-jam-up.true in rw (c.in_default.ensures, above, at) refl
+returns-then-up_is_high c = let (above, at) = end_above c.if-up_is_high.true in rw (c.in_default.ensures, above, at) refl
 
-pub returns-then-jam-down : goal.returns-then-jam-down
+pub returns-then-down_is_high : goal.returns-then-down_is_high
 unfolding or_if
-returns-then-jam-down c =
-    let (above, at) = end_above c.if-jam-down.true in
-    rw (c.in_default.ensures, end_within c.if-jam-up.false, above, at) refl
+returns-then-down_is_high c =
+    let (above, at) = end_above c.if-down_is_high.true in
+    rw (c.in_default.ensures, end_within c.if-up_is_high.false, above, at) refl
 
 pub returns : goal.returns
 unfolding or_if
-returns c = rw (c.in_default.ensures, end_within c.if-jam-up.false, end_within c.if-jam-down.false) refl
+returns c = rw (c.in_default.ensures, end_within c.if-up_is_high.false, end_within c.if-down_is_high.false) refl
