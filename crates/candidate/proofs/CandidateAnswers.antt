@@ -1,5 +1,7 @@
 -- The candidate's answers, accepted and refused; the numerator is never −0.0, and on whole estimates it is the whole row's value.
-use Rattle.std.proofs.Common.{◌≡◌, ℕ, ◌+◌, ◌*◌, ◌^◌, ◌<◌, ◌≤◌, Bool, true, false, [], ◌∷◌, ◌++◌, ℤ, pos, nat_abs, sym, refl, ap, ◌∙◌, subst, true≢false, le_trans, mul-le-mul, arith, lit≤, le-ltb, lt-ltb, ne_eqb}
+use Rattle.std.proofs.Common.{◌≡◌, ℕ, ◌+◌, ◌*◌, ◌^◌, ◌<◌, ◌≤◌, Bool, true, false, [], ◌∷◌, ◌++◌, ℤ, pos, nat_abs, sym, refl, ap, ◌∙◌, subst, true≢false, le_trans, mul-le-mul, arith, lit≤, le-ltb, lt-ltb, ne_eqb, Result}
+use Rattle.std.specs.Prelude.{IsErrAnd}
+use Rattle.std.proofs.lemmas.Result.{err_from_is_err_and}
 use lib.Ieee.{Float, fin, binary64, prec, ne, lt, of_int, of_bits}
 use lib.Ieee.Fits.{add-fits}
 use Rattle.choice.specs.Choice.{pick, or}
@@ -20,7 +22,9 @@ use Rattle.floats.proofs.Within.{within, finite_of_passes, passes_of_finite}
 use Rattle.floats.proofs.Sum.{add_plain}
 use Rattle.candidate.specs.declared.candidates.CandidateResult.{CandidateResult}
 use Rattle.candidate.specs.Answers.{CandidateAnswer}
-use Rattle.refusal.specs.Answer.{Done, Refused}
+use Rattle.refusal.specs.Answer.{Done, Refused, answer_of, outcome_of}
+use Rattle.refusal.specs.declared.Refusal.{Refusal}
+use Rattle.refusal.proofs.Results.{numbered}
 use Rattle.rows.specs.Rows.{row_value}
 use Rattle.candidate.specs.Candidate.{EstimatePlaced}
 use Rattle.rows.specs.Coefficients.{left_coefficient, own_coefficient, right_coefficient, constant_of}
@@ -195,6 +199,13 @@ module _ (r : Road) (mode : ℕ) (left own right : Float) where
         exact = λ p q l o t l-is o_is t-is. rw (sym (same_numerator q) ∙ is) (whole_row r mode left own right k.checked l o t l-is o_is t-is);
         plain = λ p q. rw (sym (same_numerator q) ∙ is) (never_minus_zero r mode left own right k.checked);
       }
+
+  -- what the judgement told
+  pub told : (f : Refusal) → outcome_of f ≡ C.candidate_refusal r mode left own right → (result : Result CandidateResult Refusal) → IsErrAnd result (λ g. g ≡ f)
+      → C.Candidates r mode left own right (answer_of result)
+  told f e result is_err =
+      let (g, is, same) = err_from_is_err_and result is_err in
+      rw (is, same) (candidate_refused (outcome_of f) e (λ z. let n = numbered f in omega arith))
 
 -- a number above 7 is no mode, whichever it is: what is promised of one is promised of any other
 module _ (r : Road) (mode other : ℕ) (left own right : Float) (above : 7 < mode) (other-above : 7 < other) where

@@ -1,2 +1,4 @@
--- The theorems of the candidate prediction: its answers.
+-- The theorems of the candidate prediction: the test of an estimate, which numbers are exact, and the call's answers.
+pub mod Tests
+pub mod Exact
 pub mod CandidateAnswers

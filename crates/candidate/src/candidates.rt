@@ -1,13 +1,12 @@
 // Candidate prediction: one row tried on estimates, for a filter that does not know its cell's mode.
-ghost use Rattle.std.specs.Prelude.{◌≡◌, ◌≤◌};
-ghost use Rattle.std.specs.Float.{binary64};
-ghost use Rattle.std.specs.Float.Ieee.{of_int};
-ghost use Rattle.choice.specs.Choice.{pick};
-ghost use Rattle.road.specs.Judgement.{Accepted, outside};
+ghost use Rattle.std.specs.Prelude.{◌≡◌, IfOk};
+ghost use Rattle.refusal.specs.Answer.{answer_of, judged_of};
+ghost use Rattle.modes.specs.Codes.{code_of};
 ghost use Rattle.candidate.specs.Candidate.{row_for, applied, bad_estimate, candidate_refusal, Candidates};
 
+use modes::Mode;
 use refusal::Refusal;
-use road::Road;
+use road::{AcceptedRoad, Road};
 use rows::WholeRow;
 
 // A mode's row for a road: three coefficients and a constant, each exactly the whole number.
@@ -25,34 +24,17 @@ pub struct CandidateResult {
     pub numerator: f64,
 }
 
-// What a candidate prediction answers: the numerator, or the refusal.
-#[derive(Clone, Copy)]
-pub enum CandidateAnswer {
-    Done(CandidateResult),
-    Refused(Refusal),
-}
-
-// Internal: the whole number as a float. Every number of a row is small enough that nothing is rounded.
-fn float_of(n: i64) -> f64
-    ensures { result ≡ of_int binary64 n }
-{
-    std::num::nearest_i64_to_f64(n)
-}
-
 impl CandidateRow {
-    // Internal: the row of a mode on an accepted road.
-    pub fn of(road: Road, mode: u8) -> CandidateRow
-        requires accepted { Accepted road }
-        requires le_mode { 1 ≤ mode }
-        requires mode_bound { mode ≤ 7 }
-        ensures { result ≡ row_for road mode }
+    // Internal: the row of a mode on an accepted road. Its numbers are small enough that no float is rounded.
+    pub fn of(road: AcceptedRoad, mode: Mode) -> CandidateRow
+        ensures { result ≡ row_for road.road (code_of mode) }
     {
         let row = WholeRow::of(road, mode);
         CandidateRow {
-            left: float_of(row.left),
-            own: float_of(row.own),
-            right: float_of(row.right),
-            constant: float_of(row.constant),
+            left: row.left as f64,
+            own: row.own as f64,
+            right: row.right as f64,
+            constant: row.constant as f64,
         }
     }
 
@@ -66,64 +48,47 @@ impl CandidateRow {
 
 // Internal: 14, an estimate that is not a number, below 0 or above J; a station's 18 is the same test. The sign of a zero
 // does not count.
+#[tactic(auto, using(crate::proofs::Tests::nan_differs))]
 pub fn bad_estimate(jam: u32, x: f64) -> bool
     ensures { result ≡ bad_estimate jam x }
 {
-    if x != x {
-        return true;
-    }
-    if x < 0.0 {
-        return true;
-    }
-    x > (jam as f64)
+    x.is_nan() || x < 0.0 || f64::from(jam) < x
 }
 
-// Internal: the place of 14, lowest first, once one of the three estimates is bad.
-fn estimate_place(left: bool, own: bool) -> u32
-    ensures { result ≡ pick left 1 (pick own 2 3) }
+// Internal: the mode's row, or the first of checks 1 to 4, 13 and 14 that refuses the call.
+#[tactic(auto, unfolding(crate::specs::Candidate::candidate_refusal, refusal::specs::Table::or_if))]
+fn judged(road: Road, mode: u8, left: f64, own: f64, right: f64) -> Result<CandidateRow, Refusal>
+    ensures refusal { judged_of result ≡ candidate_refusal road mode left own right }
+    ensures row { IfOk result (λ row. row ≡ row_for road mode) }
 {
-    if left {
-        1
-    } else if own {
-        2
-    } else {
-        3
+    let road = road.judged()?;
+    let mode = Mode::try_from(mode)?;
+    let jam = road.road.jam;
+    if bad_estimate(jam, left) {
+        return Err(Refusal::Estimate(1));
     }
-}
-
-// Internal: 13, the mode is outside 1 to 7.
-fn bad_mode(mode: u8) -> bool
-    ensures { result ≡ outside 1 7 mode }
-{
-    choice::either(mode < 1, 7 < mode)
-}
-
-// Internal: the candidate's refusal, or none.
-fn judged(road: Road, mode: u8, left: f64, own: f64, right: f64) -> Refusal
-    ensures { result ≡ candidate_refusal road mode left own right }
-{
-    let bad_mode = bad_mode(mode);
-    let bad_left = bad_estimate(road.jam, left);
-    let bad_own = bad_estimate(road.jam, own);
-    let bad_right = bad_estimate(road.jam, right);
-    let bad = choice::either(bad_left, choice::either(bad_own, bad_right));
-    let place = estimate_place(bad_left, bad_own);
-    road::judged(road)
-        .or_if(bad_mode, 13, 0)
-        .or_if(bad, 14, place)
+    if bad_estimate(jam, own) {
+        return Err(Refusal::Estimate(2));
+    }
+    if bad_estimate(jam, right) {
+        return Err(Refusal::Estimate(3));
+    }
+    Ok(CandidateRow::of(road, mode))
 }
 
 // The numerator that the mode's row predicts from three estimates. Where all three are whole it is the whole row's
 // value, exactly. It is never −0.0.
-pub fn candidate(road: Road, mode: u8, left: f64, own: f64, right: f64) -> CandidateAnswer
-    ensures { Candidates road mode left own right result }
+pub fn candidate(
+    road: Road,
+    mode: u8,
+    left: f64,
+    own: f64,
+    right: f64,
+) -> Result<CandidateResult, Refusal>
+    ensures { Candidates road mode left own right (answer_of result) }
 {
-    let refusal = judged(road, mode, left, own, right);
-    if refusal.number != 0 {
-        return CandidateAnswer::Refused(refusal);
-    }
-    let row = CandidateRow::of(road, mode);
-    CandidateAnswer::Done(CandidateResult {
+    let row = judged(road, mode, left, own, right)?;
+    Ok(CandidateResult {
         numerator: row.applied(left, own, right),
     })
 }

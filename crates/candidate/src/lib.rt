@@ -3,4 +3,4 @@
 
 mod candidates;
 
-pub use candidates::{CandidateAnswer, CandidateResult, bad_estimate, candidate};
+pub use candidates::{CandidateResult, bad_estimate, candidate};

@@ -2,7 +2,11 @@
 use mathlib.Core.Path.{◌≡◌, ◌∙◌, refl, sym, ap}
 use mathlib.Core.Bool.{true≢false}
 use Prim.Native.Nat.{ℕ, ◌≤◌}
+use native.Mathlib.Omega.{arith}
 use borrow.Author.Tests.{ltb-false, le-ltb}
+use Rattle.std.proofs.Common.{Result}
+use Rattle.std.specs.Prelude.{IsErrAnd}
+use Rattle.std.proofs.lemmas.Result.{err_from_is_err_and}
 use Rattle.road.specs.Ceilings.{count_ceiling}
 use Rattle.refusal.specs.Outcome.{Outcome}
 use Rattle.refusal.proofs.Table.{◌&◌, no_place}
@@ -11,7 +15,9 @@ use Rattle.counting.specs.WordCount.{word_count}
 use Rattle.counting.specs.Count.{count_checks, count_refusal, count_answer, count_meaning, meaning, CountsWords}
 use Rattle.counting.specs.declared.counting.WordCount.{WordCount}
 use Rattle.counting.specs.Answers.{CountAnswer}
-use Rattle.refusal.specs.Answer.{Done, Refused}
+use Rattle.refusal.specs.Answer.{Done, Refused, answer_of, outcome_of}
+use Rattle.refusal.specs.declared.Refusal.{Refusal}
+use Rattle.refusal.proofs.Results.{numbered}
 use Rattle.counting.proofs.WordList.{words_counted}
 
 -- what an accepted answer carries is what it says
@@ -51,3 +57,9 @@ module _ (n : ℕ) where
         judged = k.judged;
         counted = λ c q. rw (sym (same_words q) ∙ same) (words_counted n k.checked);
       }
+
+  -- what the judgement told
+  pub told : (f : Refusal) → outcome_of f ≡ count_refusal n → (result : Result WordCount Refusal) → IsErrAnd result (λ g. g ≡ f) → CountsWords n (answer_of result)
+  told f e result is_err =
+      let (g, is, same) = err_from_is_err_and result is_err in
+      rw (is, same) (refused (outcome_of f) e (λ z. let n = numbered f in omega arith))

@@ -1,11 +1,12 @@
 -- The word count, midway: the turns that are left make the count of the letters so far, and no sum on the way is above it.
 use mathlib.Core.Path.{◌≡◌, refl}
-use Prim.Native.Nat.{ℕ, zero, suc, ◌+◌, ◌-◌, ◌≤◌, ◌<◌, zero-le}
+use Prim.Native.Nat.{ℕ, zero, suc, ◌+◌, ◌-◌, ◌≤◌, ◌<◌}
 use native.Mathlib.Nat.{le_trans, le_of_suc-le-suc, not-suc-le-zero, sub-zero, sub-eq-zero_of_le}
 use native.Mathlib.Omega.{arith}
 use lib.Dec.{lit≤}
 use Rattle.road.specs.Ceilings.{count_ceiling}
 use Rattle.counting.specs.WordCount.{turned, word_count}
+use Rattle.counting.specs.declared.counting.Endings.{Endings}
 
 -- more turns never make less
 grows : (n w l d : ℕ) → w + l + d ≤ turned n w l d
@@ -29,27 +30,26 @@ count_small : (n : ℕ) → n ≤ count_ceiling → word_count n ≤ 36820655126
 unfolding word_count
 count_small n h = le_trans (longer n count_ceiling 1 1 1 h) most
 
--- the loop after k turns
-pub record Turning (n w l d k : ℕ) : Type 0 where
-  pub inside : k ≤ n
-  pub count : turned (n - k) w l d ≡ word_count n
+-- the words after k turns
+pub record Turning (n : ℕ) (words : Endings) (k : ℕ) : Type 0 where
+  pub count : turned (n - k) words.w words.l words.d ≡ word_count n
 
 module _ (n : ℕ) where
-  pub begins : Turning n 1 1 1 0
+  pub begins : Turning n (record { w = 1; l = 1; d = 1 }) 0
   unfolding word_count
-  begins = record { inside = zero-le; count = rw sub-zero refl }
+  begins = record { count = rw sub-zero refl }
 
-  module _ (w l d k : ℕ) (now : Turning n w l d k) where
+  module _ (words : Endings) (k : ℕ) (now : Turning n words k) where
     -- every sum of a turn is at most this one
-    pub sum_small : n ≤ count_ceiling → w + l + d ≤ 368206551266960
-    sum_small h = let most = count_small n h in let more = grows (n - k) w l d in omega (arith, now.count)
+    pub sum_small : n ≤ count_ceiling → words.w + words.l + words.d ≤ 368206551266960
+    sum_small h = let most = count_small n h in let more = grows (n - k) words.w words.l words.d in omega (arith, now.count)
 
-    pub turns : k < n → Turning n (w + l + d) (w + d) (l + d) (k + 1)
+    pub turns : k < n → (next : Endings) → next.w ≡ words.w + words.l + words.d → next.l ≡ words.w + words.d → next.d ≡ words.l + words.d → Turning n next (k + 1)
     unfolding turned
-    turns h =
+    turns h next w l d =
         let left : n - k ≡ suc (n - (k + 1)) = omega arith in
-        record { inside = omega arith; count = rw left at now.count }
+        record { count = rw (w, l, d) (rw left at now.count) }
 
-    pub ends : n ≤ k → w + l + d ≡ word_count n
+    pub ends : n ≤ k → words.w + words.l + words.d ≡ word_count n
     unfolding turned
     ends h = rw (sub-eq-zero_of_le h) at now.count

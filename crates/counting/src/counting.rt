@@ -1,5 +1,6 @@
 // The word count: how many legal words there are for a number of cells.
-ghost use Rattle.std.specs.Prelude.{◌≡◌, ◌≤◌};
+ghost use Rattle.std.specs.Prelude.{◌≡◌, ◌+◌, ◌^◌, ◌<◌, ◌≤◌};
+ghost use Rattle.refusal.specs.Answer.{answer_of, judged_of};
 ghost use Rattle.road.specs.Ceilings.{count_ceiling};
 ghost use Rattle.counting.specs.WordCount.{word_count};
 ghost use Rattle.counting.specs.Count.{count_refusal, CountsWords};
@@ -13,49 +14,60 @@ pub struct WordCount {
     pub words: u64,
 }
 
-// What a word count answers.
+// How many legal words of one length end in each letter.
 #[derive(Clone, Copy)]
-pub enum CountAnswer {
-    Done(WordCount),
-    Refused(Refusal),
+struct Endings {
+    w: u64,
+    l: u64,
+    d: u64,
 }
 
-// Internal: check 15, the count's only one.
-fn judged(cells: u32) -> Refusal
-    ensures { result ≡ count_refusal cells }
-{
-    Refusal::none().or_if(Road::COUNT < cells, 15, 0)
+impl Endings {
+    // Internal: how many words of one letter more end in each. W follows every letter, L all but L, D all but W.
+    fn longer(self) -> Endings
+        requires { self.w + self.l + self.d < 2 ^ 64 }
+        ensures w { result.w ≡ self.w + self.l + self.d }
+        ensures l { result.l ≡ self.w + self.d }
+        ensures d { result.d ≡ self.l + self.d }
+    {
+        Endings {
+            w: self.w + self.l + self.d,
+            l: self.w + self.d,
+            d: self.l + self.d,
+        }
+    }
 }
 
-// Internal: the words that end in W, L and D, a letter longer with each turn. Up to the ceiling every sum fits 64 bits.
+// Internal: the words of one letter more than there are cells. Up to the ceiling every sum fits 64 bits.
+#[tactic(auto, using(crate::proofs::Turning::begins, crate::proofs::Turning::sum_small, crate::proofs::Turning::turns, crate::proofs::Turning::ends))]
 fn counted(cells: u32) -> u64
     requires { cells ≤ count_ceiling }
     ensures { result ≡ word_count cells }
 {
-    let mut w: u64 = 1;
-    let mut l: u64 = 1;
-    let mut d: u64 = 1;
-    let mut turn = 0;
-    while turn < cells {
-        let next_l = w + d;
-        let next_d = l + d;
-        w = w + l + d;
-        l = next_l;
-        d = next_d;
-        turn += 1;
+    let mut words = Endings { w: 1, l: 1, d: 1 };
+    for _ in 0..cells {
+        words = words.longer();
     }
-    w + l + d
+    words.w + words.l + words.d
+}
+
+// Internal: check 15, the count's only one.
+#[tactic(auto, unfolding(crate::specs::Count::count_refusal, refusal::specs::Table::or_if))]
+fn judged(cells: u32) -> Result<(), Refusal>
+    ensures { judged_of result ≡ count_refusal cells }
+{
+    if Road::COUNT < cells {
+        return Err(Refusal::WordCount);
+    }
+    Ok(())
 }
 
 // The number of legal words of one letter more than there are cells; refused above the ceiling.
-pub fn count(cells: u32) -> CountAnswer
-    ensures { CountsWords cells result }
+pub fn count(cells: u32) -> Result<WordCount, Refusal>
+    ensures { CountsWords cells (answer_of result) }
 {
-    let refusal = judged(cells);
-    if refusal.number != 0 {
-        return CountAnswer::Refused(refusal);
-    }
-    CountAnswer::Done(WordCount {
+    judged(cells)?;
+    Ok(WordCount {
         words: counted(cells),
     })
 }

@@ -3,4 +3,4 @@
 
 mod counting;
 
-pub use counting::{CountAnswer, WordCount, count};
+pub use counting::{WordCount, count};

@@ -7,14 +7,22 @@ use lib.ListN.{length}
 use Rattle.road.specs.declared.Road.{Road}
 use Rattle.refusal.specs.Outcome.{Outcome}
 use Rattle.refusal.proofs.Calls.{Call, accepts_checked, refuses, accepts}
-use Rattle.checks.proofs.State.{state_checked}
+use Rattle.checks.proofs.State.{state_checked, without_outputs}
 use Rattle.scheme.specs.Word.{word_of}
 use Rattle.modes.specs.Judging.{fit_checks, fit_refusal}
 use Rattle.words.specs.Places.{PairWordPlaced}
 use Rattle.modes.specs.Fit.{first_misfit, all_letters_hold, misfit_face, fit_answer, meaning, fit_meaning, FitChecked, Compared, FitState, Fits, AnswersFit}
-use Rattle.modes.specs.declared.fitting.FitResult.{FitResult}
-use Rattle.modes.specs.Answers.{FitAnswer}
-use Rattle.refusal.specs.Answer.{Done, Refused}
+use Rattle.modes.specs.Answers.{FitResult, FitAnswer, fit_of}
+use Rattle.refusal.specs.Answer.{Done, Refused, outcome_of}
+use Rattle.refusal.specs.Table.{passed}
+use Rattle.refusal.specs.declared.Refusal.{Refusal}
+use Rattle.refusal.proofs.Results.{numbered}
+use Rattle.words.specs.Judged.{IsWord}
+use Rattle.words.specs.Judging.{pair_word_checks, state_word_refusal}
+use Rattle.words.specs.declared.accepted.AcceptedWord.{AcceptedWord}
+use Rattle.std.specs.Prelude.{IsErrAnd, Option, Result}
+use Rattle.std.proofs.lemmas.Result.{err_from_is_err_and}
+use native.Mathlib.Omega.{arith}
 use Rattle.words.proofs.WordCheck.{word_long, word_legal, state_word_passes, pair_word_placed}
 use Rattle.modes.proofs.Misfits.{own_long, same_word, other_word}
 use Rattle.modes.proofs.Fitness.{fit_state}
@@ -77,6 +85,24 @@ module _ (r : Road) (cells : List ℕ) (up down : ℕ) (word : List ℕ) where
         judged = k.judged;
         state = λ g q. subst (FitState r cells up down word) (same_result q) (fit_state r cells up down word k.checked.state.accepted k.checked.word_long f c);
       }
+
+  -- the judgement of a state and a word, where no output is bad, is the fit test's
+  without_output : state_word_refusal r cells up down word false ≡ fit_refusal r cells up down word
+  unfolding fit_refusal state_word_refusal
+  without_output = without_outputs r (length cells) (pair_word_checks r cells up down word)
+
+  -- so that a refusal of it is refused, and what passed it is compared
+  pub refused_by : (f : Refusal) (a : Result (Option ℕ) Refusal) → IsErrAnd a (λ g. g ≡ f)
+      → outcome_of f ≡ state_word_refusal r cells up down word false → Fits r cells up down word (fit_of a)
+  refused_by f a is_err e =
+      let p = err_from_is_err_and a is_err in
+      rw (p.1, p.2) (refused (outcome_of f) (e ∙ without_output) (λ z. let n = numbered f in omega arith))
+
+  pub done_by : (w : AcceptedWord) → IsWord w r cells up down word → passed ≡ state_word_refusal r cells up down word false
+      → (f : FitResult) → Compared w.state.road.road w.state.cells.now w.state.up w.state.down w.word.now f → Fits r cells up down word (Done f)
+  done_by w is e f c =
+      let s = is.state in
+      done (sym (ap (λ (g : Outcome). g.number) (e ∙ without_output))) f (rw (s.road, s.cells, s.up, s.down, is.word) at c)
 
   -- of a checked input whose every face holds, the test is made and says so
   pub answers_fit : FitChecked r cells up down word → all_letters_hold r cells up down word ≡ true → (a : FitAnswer) → Fits r cells up down word a → AnswersFit a

@@ -15,7 +15,7 @@ use Rattle.scheme.proofs.Faces.{word_letter}
 use Rattle.scheme.proofs.Lists.{same_lists, lists_same}
 use Rattle.modes.specs.Fit.{first_misfit, all_letters_hold, misfit_face, Compared, LetteredWord, LowestMisfit, FitState}
 use Rattle.modes.specs.Reading.{OwnWord}
-use Rattle.modes.specs.declared.fitting.FitResult.{FitResult}
+use Rattle.modes.specs.Answers.{FitResult}
 use Rattle.words.proofs.Legal.{word_legal}
 use Rattle.modes.proofs.Misfits.{misfit_bound, misfit_past, misfit_at, own_long, same_word}
 

@@ -43,11 +43,14 @@ module _ (r : Road) (up down : ℕ) (cells : List ℕ) where
         → Lettering r up down cells (set letters i s) (get_or cells i 0) (i + 1)
     turns = rw (add-one i) turn
 
-    pub ends : (s : ℕ) → length cells ≤ i → s ≡ letter r left down → set letters i s ≡ word_of r up down cells
+    at_last : (s : ℕ) → length cells ≤ i → s ≡ letter r left down → set letters i s ≡ word_of r up down cells
     unfolding word_of
-    ends s h e =
+    at_last s h e =
         let l = now.long in
         let n = now.inside in
         let last : drop (suc i) letters ≡ [] = drop_of_length-le letters {i = suc i} (omega arith) in
         rw (set_split letters i s (omega arith), last)
         (ap (λ (x : ℕ). take i letters ++ (x ∷ [])) e ∙ (rw (drop_of_length-le cells h) at now.word))
+
+    pub ends : (s : ℕ) → length cells ≤ i → s ≡ letter r left down → set letters (length cells) s ≡ word_of r up down cells
+    ends s h e = let n = now.inside in let here : i ≡ length cells = omega arith in ap (λ (k : ℕ). set letters k s) (sym here) ∙ at_last s h e

@@ -3,7 +3,7 @@ pub mod Seven
 pub mod ModeRange
 pub mod LetterLoop
 pub mod ModeLoop
-pub mod CountLoop
+pub mod Counted
 pub mod Misfits
 pub mod Fitness
 pub mod FitAnswers

@@ -130,15 +130,18 @@ module _ (r : Road) (up down : ℕ) (cells word : List ℕ) (long : length word 
       unfolding word_of
       last = ap (word_of r left down) (drop_of_length-le cells h) ∙ ap (λ (t : ℕ). t ∷ []) (sym e)
 
-      pub ends_off : (s ≡ get_or word i 0 → ⊥) → i ≡ first_misfit (word_of r up down cells) word
-      ends_off n =
-          let off = face_off word i (let l = now.inside in omega arith) s [] n in
-          let rest = rw last at now.rest in
-          omega arith
+      at_last : i ≡ length cells
+      at_last = let l = now.inside in omega arith
 
-      pub ends_on : s ≡ get_or word i 0 → i + 1 ≡ first_misfit (word_of r up down cells) word
+      pub ends_off : (s ≡ get_or word (length cells) 0 → ⊥) → length cells ≡ first_misfit (word_of r up down cells) word
+      ends_off n =
+          let off = face_off word i (let l = now.inside in omega arith) s [] (λ q. n (q ∙ ap (λ (k : ℕ). get_or word k 0) at_last)) in
+          let rest = rw last at now.rest in
+          omega (arith, at_last)
+
+      pub ends_on : s ≡ get_or word (length cells) 0 → length cells + 1 ≡ first_misfit (word_of r up down cells) word
       unfolding first_misfit
       ends_on q =
-          let on = face_on word i (let l = now.inside in omega arith) s [] q in
+          let on = face_on word i (let l = now.inside in omega arith) s [] (q ∙ ap (λ (k : ℕ). get_or word k 0) (sym at_last)) in
           let rest = rw last at now.rest in
-          omega arith
+          omega (arith, at_last)

@@ -1,6 +1,6 @@
 -- The reading's promise, refused and accepted, from what its parts hand back.
 use mathlib.Core.Path.{◌≡◌, ◌∙◌, refl, sym, ap}
-use mathlib.Core.Bool.{true≢false}
+use mathlib.Core.Bool.{Bool, true≢false}
 use mathlib.Core.List.{List}
 use Prim.Native.Nat.{ℕ, ◌+◌, ◌≤◌}
 use native.Mathlib.Omega.{arith}
@@ -13,11 +13,18 @@ use Rattle.scheme.specs.Word.{word_of}
 use Rattle.scheme.proofs.Faces.{word_length}
 use Rattle.modes.specs.Modes.{modes_of}
 use Rattle.modes.specs.Judging.{read_refusal}
-use Rattle.modes.specs.Reading.{counts_of, queued_of, counts_for, no_counts, read_answer, read_letters, read_modes, ReadChecked, Reads}
-use Rattle.modes.specs.Answers.{ReadAnswer}
-use Rattle.refusal.specs.Answer.{Done, Refused}
+use Rattle.modes.specs.Reading.{counts_of, queued_of, counts_for, read_answer, read_letters, read_modes, ReadChecked, Reads}
+use Rattle.modes.specs.Answers.{ReadAnswer, StateReading, no_counts, reading_of}
+use Rattle.refusal.specs.Answer.{Done, Refused, outcome_of}
+use Rattle.refusal.specs.Table.{passed}
+use Rattle.refusal.specs.declared.Refusal.{Refusal}
+use Rattle.refusal.proofs.Results.{numbered}
+use Rattle.choice.specs.Choice.{or}
+use Rattle.checks.specs.Lists.{bad_output}
+use Rattle.checks.specs.State.{state_refusal}
+use Rattle.std.specs.Prelude.{IsErrAnd, Result}
+use Rattle.std.proofs.lemmas.Result.{err_from_is_err_and}
 use Rattle.modes.specs.declared.reading.Counts.{Counts}
-use Rattle.modes.specs.declared.reading.StateReading.{StateReading}
 use Rattle.modes.proofs.TalliedModes.{state_modes_length}
 use Rattle.modes.proofs.ReadJudging.{read_call}
 use Rattle.modes.proofs.ReadState.{read_state}
@@ -43,6 +50,22 @@ module _ (r : Road) (cells : List ℕ) (up down : ℕ) (letters modes : List ℕ
         state = λ q. absurd (true≢false (cc q));
       }
 
+  -- the judgement of a state, whose check 8 is that of both outputs, is the reading's
+  module _ (bad : Bool) (eight : bad ≡ or (bad_output (length cells + 1) (length letters)) (bad_output (length cells) (length modes))) where
+    judgement : state_refusal r cells up down bad ≡ read_refusal r cells up down (length letters) (length modes)
+    unfolding read_refusal state_refusal
+    judgement = ap (state_refusal r cells up down) eight
+
+    -- so that a refusal of it is refused, and what passed it is checked
+    pub refused_by : (f : Refusal) (a : Result Counts Refusal) → IsErrAnd a (λ g. g ≡ f) → outcome_of f ≡ state_refusal r cells up down bad
+        → Reads r cells up down letters letters modes modes (reading_of a)
+    refused_by f a is_err e =
+        let p = err_from_is_err_and a is_err in
+        rw (p.1, p.2) (refused (outcome_of f) (e ∙ judgement) (λ z. let n = numbered f in omega arith))
+
+    pub passes : passed ≡ state_refusal r cells up down bad → (read_refusal r cells up down (length letters) (length modes)).number ≡ 0
+    passes e = sym (ap (λ (g : Outcome). g.number) (e ∙ judgement))
+
   -- accepted: the word, its modes and their counts
   module _ (e : (read_refusal r cells up down (length letters) (length modes)).number ≡ 0) where
     pub checked : ReadChecked r cells up down (length letters) (length modes)
@@ -62,14 +85,14 @@ module _ (r : Road) (cells : List ℕ) (up down : ℕ) (letters modes : List ℕ
         few_modes = let n = ap length modes_are ∙ state_modes_length r up down cells in let h = checked.state.cells_high in omega arith
 
         pub done : (counts : List ℕ) (queued : ℕ) → counts ≡ counts_of ms → queued ≡ queued_of r.critical cells
-            → Reads r cells up down letters word modes ms (reading Done (record { modes = counts; queued = queued }))
+            → Reads r cells up down letters word modes ms (reading (Done tt) (record { modes = counts; queued = queued }))
         unfolding read_answer read_letters read_modes
         done counts queued tallied above =
             let k = Calls.accepts (read_call r cells up down (length letters) (length modes)) e in
             let c : Counts = record { modes = counts; queued = queued } in
             let counted : c ≡ counts_for r cells ms = λ j. record { modes = tallied j; queued = above j } in
             record {
-              answer = rw k.yes (ap (reading Done) (counted ∙ ap (counts_for r cells) modes_are));
+              answer = rw k.yes (ap (reading (Done tt)) (counted ∙ ap (counts_for r cells) modes_are));
               number = sym (ap (λ (g : Outcome). g.number) k.nothing);
               place = sym (ap (λ (g : Outcome). g.place) k.nothing);
               letters_written = rw k.yes lettered;

@@ -14,7 +14,7 @@ use Rattle.modes.specs.ReadOff.{upstream_of, downstream_of, cells_of}
 use Rattle.modes.specs.Reading.{read_answer, ReadChecked}
 use Rattle.modes.specs.ReadOff.{ReadOff}
 use Rattle.refusal.specs.Answer.{Done}
-use Rattle.modes.specs.declared.reading.StateReading.{StateReading}
+use Rattle.modes.specs.Answers.{StateReading}
 use Rattle.modes.proofs.Occurs.{occurs}
 use Rattle.modes.proofs.ReadJudging.{read_call}
 
@@ -45,6 +45,6 @@ module _ (r : Road) (ok : Accepted r) (word : List ℕ) (allowed : legal word �
     checked = state_accepted;
     written = λ letters next-letters modes next_modes a reads l m.
         let none = accepts_checked (read_call r (cells_of r word) (upstream_of r word) (downstream_of r word) (length word) (length (cells_of r word))) state_accepted in
-        let made : a.answer ≡ Done = ap (λ (s : StateReading). s.answer) (rw (l, m, none) at reads.answer) in
+        let made : a.answer ≡ Done tt = ap (λ (s : StateReading). s.answer) (rw (l, m, none) at reads.answer) in
         (made, (reads.state made).word ∙ (occurs r ok word allowed (omega arith)).same);
   }

@@ -12,8 +12,7 @@ use Rattle.scheme.specs.Word.{word_of}
 use Rattle.words.specs.Words.{legal}
 use Rattle.modes.specs.Judging.{fit_checks, fit_refusal}
 use Rattle.words.specs.Places.{PairWordPlaced}
-use Rattle.modes.specs.declared.fitting.FitResult.{FitResult}
-use Rattle.modes.specs.Answers.{FitAnswer}
+use Rattle.modes.specs.Answers.{FitResult, FitAnswer}
 use Rattle.refusal.specs.Answer.{Done, Refused}
 
 -- the lowest face at which two words of one length differ, from 0; the number of faces where none does. Check 12 lets no other length through

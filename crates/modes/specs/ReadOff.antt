@@ -6,7 +6,7 @@ use Rattle.flux.specs.Face.{letter_w, letter_l, letter_d}
 use Rattle.scheme.specs.Word.{word_of}
 use Rattle.modes.specs.Reading.{ReadChecked, Reads}
 use Rattle.refusal.specs.Answer.{Done}
-use Rattle.modes.specs.declared.reading.StateReading.{StateReading}
+use Rattle.modes.specs.Answers.{StateReading}
 
 -- a state with a given legal word, of the densities 0, C and J alone. Between the letters s and t stands J where s is W or t is L, C where t is W after L or D, and 0 otherwise
 unfoldable pub between : Road → ℕ → ℕ → ℕ
@@ -42,4 +42,4 @@ pub record ReadOff (r : Road) (word : List ℕ) : Type 0 where
   pub checked : ReadChecked r (cells_of r word) (upstream_of r word) (downstream_of r word) (length word) (length (cells_of r word))
   pub written : (letters next-letters modes next_modes : List ℕ) (a : StateReading)
       → Reads r (cells_of r word) (upstream_of r word) (downstream_of r word) letters next-letters modes next_modes a
-      → length letters ≡ length word → length modes ≡ length (cells_of r word) → (a.answer ≡ Done) × (next-letters ≡ word)
+      → length letters ≡ length word → length modes ≡ length (cells_of r word) → (a.answer ≡ Done tt) × (next-letters ≡ word)

@@ -14,11 +14,9 @@ use Rattle.words.specs.Words.{legal}
 use Rattle.modes.specs.Modes.{modes_of}
 use Rattle.modes.specs.Judging.{read_checks, read_refusal}
 use Rattle.modes.specs.Fit.{all_letters_hold, LetteredWord, Fits, AnswersFit}
-use Rattle.modes.specs.Answers.{FitAnswer}
-use Rattle.modes.specs.Answers.{ReadAnswer}
+use Rattle.modes.specs.Answers.{ReadAnswer, StateReading, no_counts, FitAnswer}
 use Rattle.refusal.specs.Answer.{Done, Refused}
 use Rattle.modes.specs.declared.reading.Counts.{Counts}
-use Rattle.modes.specs.declared.reading.StateReading.{StateReading}
 
 -- how many of the modes are k
 unfoldable pub count_of : ℕ → List ℕ → ℕ
@@ -42,10 +40,6 @@ Numbered ms = (i : ℕ) → i < length ms → (1 ≤ get_or ms i 0) × (get_or m
 abbrev pub counts_for : Road → List ℕ → List ℕ → Counts
 counts_for r cells modes = record { modes = counts_of modes; queued = queued_of r.critical cells }
 
--- no counts
-abbrev pub no_counts : Counts
-no_counts = record { modes = 0 ∷ 0 ∷ 0 ∷ 0 ∷ 0 ∷ 0 ∷ 0 ∷ []; queued = 0 }
-
 -- what an input that no check refuses is
 pub record ReadChecked (r : Road) (cells : List ℕ) (up down letters modes : ℕ) : Type 0 where
   pub state : StateChecked r cells up down
@@ -62,7 +56,7 @@ unfoldable pub read_answer : Road → List ℕ → ℕ → ℕ → ℕ → ℕ �
 read_answer r cells up down letters modes =
     unless_refused (read_refusal r cells up down letters modes)
     (record {
-      answer = Done;
+      answer = Done tt;
       counts = counts_for r cells (modes_of (word_of r up down cells));
     })
     (record { answer = Refused (read_refusal r cells up down letters modes); counts = no_counts })
@@ -78,11 +72,11 @@ read_modes r cells up down letters modes =
 
 -- the paper's numbers of an answer: number (0 when accepted) and place
 abbrev pub read_number : ReadAnswer → ℕ
-read_number Done = 0
+read_number (Done made) = 0
 read_number (Refused f) = f.number
 
 abbrev pub read_place : ReadAnswer → ℕ
-read_place Done = 0
+read_place (Done made) = 0
 read_place (Refused f) = f.place
 
 -- what its own word is to a state: it has a letter a face, is legal, fits, and is the only word that does
@@ -124,4 +118,4 @@ pub record Reads (r : Road) (cells : List ℕ) (up down : ℕ) (letters next-let
   pub modes_written : next_modes ≡ read_modes r cells up down letters modes
   pub judged : ReadJudged r cells up down (length letters) (length modes) (refused (read_number a.answer) (read_place a.answer))
   -- demand 2, of an accepted call: of the letters, modes and counts handed back
-  pub state : a.answer ≡ Done → ReadState r cells up down next-letters next_modes a.counts
+  pub state : a.answer ≡ Done tt → ReadState r cells up down next-letters next_modes a.counts

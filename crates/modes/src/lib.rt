@@ -1,5 +1,5 @@
 // Level 2, public: the reading of a state and the fit test of a word. No call asks anything of its input: each judges it, and
-// refuses what the table refuses. Internal, for `rows`: `mode_of`.
+// refuses what the table refuses. Internal, for `rows` and `candidate`: `Mode`.
 #![tactic(auto)]
 
 mod fitting;
@@ -8,6 +8,6 @@ mod reading;
 mod tallying;
 mod writing;
 
-pub use fitting::{FitAnswer, FitResult, fit};
-pub use mode::mode_of;
-pub use reading::{Counts, ReadAnswer, StateReading, read};
+pub use fitting::fit;
+pub use mode::Mode;
+pub use reading::{Counts, read};

@@ -1,10 +1,13 @@
 // The reading of a state: the letter of every face, the mode of every cell, seven counts and the queued cells.
-ghost use Rattle.std.specs.Prelude.{◌≡◌};
-ghost use Rattle.modes.specs.Judging.{read_refusal};
+ghost use Rattle.std.specs.Prelude.{◌≡◌, ◌+◌, length};
+ghost use Rattle.choice.specs.Choice.{or};
+ghost use Rattle.checks.specs.Lists.{bad_output};
+ghost use Rattle.modes.specs.Answers.{reading_of};
 ghost use Rattle.modes.specs.Reading.{Reads};
 
 use super::tallying::{queued, tally};
 use super::writing::{write_letters, write_modes};
+use checks::AcceptedState;
 use refusal::Refusal;
 use road::Road;
 
@@ -15,32 +18,16 @@ pub struct Counts {
     pub queued: u32,
 }
 
-// Whether a reading was made.
-#[derive(Clone, Copy)]
-pub enum ReadAnswer {
-    Done,
-    Refused(Refusal),
-}
-
-// A reading's answer beside its counts, all 0 when refused.
-#[derive(Clone, Copy)]
-pub struct StateReading {
-    pub answer: ReadAnswer,
-    pub counts: Counts,
-}
-
-// Internal: the reading's refusal, or none.
-fn judged(road: Road, cells: &[u32], up: u32, down: u32, letters: usize, modes: usize) -> Refusal
-    ensures { result ≡ read_refusal road cells.now up down letters modes }
+// Internal: check 8 of both outputs, n+1 letters and n modes.
+fn have_bad_length(cells: &[u32], letters: &[u8], modes: &[u8]) -> bool
+    ensures { result ≡ or (bad_output (length cells.now + 1) (length letters.now)) (bad_output (length cells.now) (length modes.now)) }
 {
-    let bad_letters = checks::bad_output(cells.len() + 1, letters);
-    let bad_modes = checks::bad_output(cells.len(), modes);
-    let bad = choice::either(bad_letters, bad_modes);
-    checks::judged_state(road, cells, up, down, bad)
+    checks::bad_output(cells.len() + 1, letters.len())
+        || checks::bad_output(cells.len(), modes.len())
 }
 
 // The letters hold the letter of every face and the modes the mode of every cell; the answer has the seven counts, whose
-// sum is the number of cells, and the queued cells. Refused, both lists keep what they held and the counts are 0.
+// sum is the number of cells, and the queued cells. Refused, both lists keep what they held.
 pub fn read(
     road: Road,
     cells: &[u32],
@@ -48,26 +35,15 @@ pub fn read(
     down: u32,
     letters: &mut [u8],
     modes: &mut [u8],
-) -> StateReading
-    ensures { Reads road cells.now up down letters.old letters.new modes.old modes.new result }
+) -> Result<Counts, Refusal>
+    ensures { Reads road cells.now up down letters.old letters.new modes.old modes.new (reading_of result) }
 {
-    let refusal = judged(road, cells, up, down, letters.len(), modes.len());
-    if refusal.number != 0 {
-        return StateReading {
-            answer: ReadAnswer::Refused(refusal),
-            counts: Counts {
-                modes: [0; 7],
-                queued: 0,
-            },
-        };
-    }
-    write_letters(road, cells, up, down, letters);
+    let bad = have_bad_length(cells, letters, modes);
+    let state = AcceptedState::judged(road, cells, up, down, bad)?;
+    write_letters(state, letters);
     write_modes(letters, modes);
-    StateReading {
-        answer: ReadAnswer::Done,
-        counts: Counts {
-            modes: tally(modes),
-            queued: queued(road.critical, cells),
-        },
-    }
+    Ok(Counts {
+        modes: tally(modes),
+        queued: queued(state),
+    })
 }

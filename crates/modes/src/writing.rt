@@ -1,32 +1,24 @@
 // The letters and the modes of a state, written once nothing can refuse any more.
-ghost use Rattle.std.specs.Prelude.{◌≡◌, ◌+◌, ◌≤◌, length};
-ghost use Rattle.road.specs.Judgement.{Accepted};
-ghost use Rattle.scheme.specs.Sums.{Below};
+ghost use Rattle.std.specs.Prelude.{◌≡◌, ◌+◌, length};
 ghost use Rattle.scheme.specs.Word.{word_of};
 ghost use Rattle.modes.specs.Modes.{modes_of};
 
-use super::mode::mode_of;
-use road::Road;
+use super::mode::Mode;
+use checks::AcceptedState;
+use flux::Letter;
 
 // Internal: the list then holds the letter of every face. The left density is carried along, so that each cell is read
 // once.
-pub fn write_letters(road: Road, cells: &[u32], up: u32, down: u32, letters: &mut [u8])
-    requires accepted { Accepted road }
-    requires below { Below road.jam cells.now }
-    requires up_le_jam { up ≤ road.jam }
-    requires down_le_jam { down ≤ road.jam }
-    requires letters_len { length letters.old ≡ length cells.now + 1 }
-    ensures { letters.new ≡ word_of road up down cells.now }
+pub fn write_letters(state: AcceptedState, letters: &mut [u8])
+    requires { length letters.old ≡ length state.cells.now + 1 }
+    ensures { letters.new ≡ word_of state.entry.road.road state.entry.up state.entry.down state.entry.cells.now }
 {
-    let mut left = up;
-    let mut i = 0;
-    while i < cells.len() {
-        let own = cells[i];
-        letters[i] = flux::letter(road, left, own);
-        left = own;
-        i += 1;
+    let mut left = state.up;
+    for (face, own) in state.cells.iter().enumerate() {
+        letters[face] = Letter::between(state.road, left, *own).code();
+        left = *own;
     }
-    letters[i] = flux::letter(road, left, down);
+    letters[state.cells.len()] = Letter::between(state.road, left, state.down).code();
 }
 
 // Internal: the list then holds the mode of every cell.
@@ -34,9 +26,7 @@ pub fn write_modes(word: &[u8], modes: &mut [u8])
     requires { length word.now ≡ length modes.old + 1 }
     ensures { modes.new ≡ modes_of word.now }
 {
-    let mut i = 0;
-    while i < modes.len() {
-        modes[i] = mode_of(word[i], word[i + 1]);
-        i += 1;
+    for (cell, mode) in modes.iter_mut().enumerate() {
+        *mode = Mode::between(word[cell], word[cell + 1]).code();
     }
 }

@@ -4,15 +4,12 @@ use mathlib.Core.Bool.{Bool, true, false, not}
 use mathlib.Core.List.{List, [], ◌∷◌}
 use Prim.Native.Nat.{ℕ, zero, suc, ◌+◌, ◌-◌, ◌≤◌, ◌<◌}
 use native.Mathlib.Nat.{le_refl, le_trans, lt_of_not-le, not-suc-le-zero, le_of_suc-le-suc}
-use native.Mathlib.Numerals.{add-one}
 use native.Mathlib.Decide.{dec_le}
 use native.Mathlib.Omega.{arith}
 use lib.Dec.{eqb}
-use lib.IntN.{ℤ, pos, neg_ℤ}
+use lib.IntN.{pos, neg_ℤ, nat_abs}
 use lib.ListN.{length, get_or, set, drop}
 use lib.Seq.{set-get_or}
-use mir.Syntax.{w32}
-use mir.Val.{to_z, of_z}
 use borrow.Author.Tests.{eq-eqb, le-leb, lt-leb, leb-true, lt-ltb, le-ltb, ltb-true}
 use Rattle.choice.specs.Choice.{or, both}
 use Rattle.choice.proofs.Choice.{both_true}
@@ -28,7 +25,6 @@ use Rattle.scheme.proofs.Lists.{lists_same}
 use Rattle.nearest.specs.Nearest.{alters, change, Smallest}
 use Rattle.nearest.specs.Ways.{crossing}
 use Rattle.nearest.proofs.Search.{smallest_down, smallest_up, smallest_small, smallest_once, search_smallest}
-use Rattle.nearest.proofs.Widths.{exact_in_i32}
 
 -- the densities on the two sides of cell i
 abbrev pub behind : ℕ → List ℕ → ℕ → ℕ
@@ -236,14 +232,6 @@ module _ (r : Road) (ok : Accepted r) (up down : ℕ) (cells : List ℕ) (i : �
   pub change_is : crossing r.jam own left right ≡ change r up down cells i
   change_is = smallest_once (alters r up down cells i) r.jam own crossed_smallest change_smallest
 
-  -- as the code works it: the densities on both sides, their thresholds, and the way across, written and read back
-  pub worked : (a b : ℕ) → a ≡ behind up cells i → b ≡ ahead down (drop (i + 1) cells) → (s t : ℕ) → s ≡ left_threshold r a → t ≡ right_threshold r b
-      → (z : ℤ) → z ≡ crossing r.jam own s t → to_z w32 (of_z w32 z) ≡ change r up down cells i
-  worked a b is-behind is-beyond s t is-left is_right z is =
-      exact_in_i32
-      (is
-      ∙ ap₂ (crossing r.jam own)
-      (is-left ∙ ap (left_threshold r) is-behind)
-      (is_right ∙ ap (right_threshold r) (is-beyond ∙ ap (λ (k : ℕ). ahead down (drop k cells)) (add-one i)))
-      ∙ change_is)
-      (le_trans (smallest_small (alters r up down cells i) r.jam own change_smallest (below i)) ok.jam_high)
+  -- which is no larger than jam
+  pub change_small : nat_abs (change r up down cells i) ≤ r.jam
+  change_small = smallest_small (alters r up down cells i) r.jam own change_smallest (below i)

@@ -1,5 +1,6 @@
 -- The search for the next mode, the ranking's order, and its answers.
 pub mod Widths
+pub mod Ceiling
 pub mod Search
 pub mod Crossing
 pub mod Order

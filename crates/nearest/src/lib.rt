@@ -6,4 +6,4 @@ mod changes;
 mod ranking;
 mod sinking;
 
-pub use ranking::{NearestAnswer, nearest};
+pub use ranking::nearest;

@@ -7,6 +7,8 @@ use native.Mathlib.Nat.{le_trans, zero-lt-suc}
 use native.Mathlib.Omega.{arith}
 use lib.Dec.{lit≤}
 use lib.Ieee.{Float, inf, binary64, prec, lt, eq, ne}
+use Rattle.std.proofs.Common.{Result, Ok, Err}
+use Rattle.std.specs.Prelude.{IfOk}
 use Rattle.choice.specs.Choice.{or}
 use Rattle.choice.proofs.Choice.{or_left, or_right, neither}
 use Rattle.floats.specs.Worth.{NotBelow0, FiniteFrom}
@@ -26,7 +28,9 @@ use Rattle.station.specs.declared.stations.StationReading.{StationReading}
 use Rattle.station.specs.declared.stations.StationReading.TheVariants.{Density, FlowAndSpeed, Speed}
 use Rattle.station.specs.declared.stations.Estimate.{Estimate}
 use Rattle.station.specs.Answers.{StationAnswer}
-use Rattle.refusal.specs.Answer.{Done, Refused}
+use Rattle.refusal.specs.Answer.{Done, Refused, answer_of, judged_of, outcome_of}
+use Rattle.refusal.specs.declared.Refusal.{Refusal}
+use Rattle.refusal.proofs.Results.{numbered}
 use Rattle.station.specs.Station as S
 use Rattle.station.proofs.LoneSpeed.{speed_range}
 
@@ -171,3 +175,9 @@ module _ (r : Road) (x : StationReading) where
         lone_speed = λ s given d q. rw (sym (same_estimate q) ∙ is) (lone_range x k.checked s given);
         never_18 = λ s given q. omega arith;
       }
+
+  -- what a reading that was judged answers
+  pub station_answers : (result : Result Estimate Refusal) → judged_of result ≡ S.station_refusal r x → IfOk result (λ e. e.density ≡ S.estimate_of r x)
+      → S.Stations r x (answer_of result)
+  station_answers (Ok e) is density = station_done (sym (ap (λ (o : Outcome). o.number) is)) e.density density
+  station_answers (Err f) is density = station_refused (outcome_of f) is (λ z. let n = numbered f in omega arith)

@@ -3,4 +3,4 @@
 
 mod stations;
 
-pub use stations::{Estimate, StationAnswer, StationReading, station};
+pub use stations::{Estimate, StationReading, station};

@@ -29,7 +29,7 @@ module _ (word : List ℕ) where
   begins = record { inside = zero-le; rest = omega arith }
 
   module _ (before i : ℕ) (now : OffenceSought word before i) where
-    pub found : i < length word → offends before (get_or word i 0) ≡ true → i ≡ first_offence letter_d word
+    pub found : i < length word → offends before (get_or word i 0) ≡ true → first_offence letter_d word ≡ i
     found h e =
         let here = ap (first_offence before) (drop-cons word i 0 h) ∙ offence_here before (get_or word i 0) (drop (suc i) word) e in
         omega (arith, now.rest)
@@ -42,6 +42,6 @@ module _ (word : List ℕ) where
     pub turns : i < length word → offends before (get_or word i 0) ≡ false → OffenceSought word (get_or word i 0) (i + 1)
     turns = rw (add-one i) turn
 
-    pub ends : length word ≤ i → i ≡ first_offence letter_d word
+    pub ends : length word ≤ i → first_offence letter_d word ≡ length word
     unfolding first_offence
-    ends h = let rest = rw (drop_of_length-le word h) at now.rest in omega arith
+    ends h = let n = now.inside in let rest = rw (drop_of_length-le word h) at now.rest in omega arith

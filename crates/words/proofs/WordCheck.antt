@@ -1,6 +1,6 @@
 -- Check 12 of the table, alone and below one end pair's: as the code works it, what it says where it does not refuse, and what its place means.
 use mathlib.Core.Path.{◌≡◌, ◌∙◌, refl, sym, ap}
-use mathlib.Core.Bool.{true, false, not}
+use mathlib.Core.Bool.{Bool, true, false, not}
 use mathlib.Core.List.{List, [], ◌∷◌}
 use Prim.Native.Nat.{ℕ, ◌+◌, ◌<◌}
 use native.Mathlib.Omega.{arith}
@@ -8,9 +8,9 @@ use lib.Dec.{eqb}
 use lib.ListN.{length}
 use borrow.Author.Tests.{eq-eqb, ne_eqb, eqb-true, eqb-false, not-true, not-false}
 use Rattle.road.specs.declared.Road.{Road}
-use Rattle.refusal.specs.Table.{Check}
+use Rattle.refusal.specs.Table.{Check, passed, refused, judge}
 use Rattle.refusal.specs.Outcome.{Outcome}
-use Rattle.refusal.proofs.Table.{Passing, ◌&◌}
+use Rattle.refusal.proofs.Table.{Passing, judge_here, judge_on, ◌&◌}
 use Rattle.choice.proofs.Choice.{or_left, or_right}
 use Rattle.checks.specs.Values.{first_index_above, any_above}
 use Rattle.checks.specs.State.{StateChecked}
@@ -38,6 +38,31 @@ module _ (n : ℕ) (word : List ℕ) where
 
     pub place_length : n + 1 ≡ word_place n word
     place_length = rw (ne_eqb (length word) (n + 1) other) refl
+
+-- what the check alone comes to: of another length, with a first offence, with none
+module _ (n : ℕ) (word : List ℕ) where
+  refuses : bad_word n word ≡ true → refused 12 (word_place n word) ≡ judge (word_check n word ∷ [])
+  refuses e = sym (judge_here (word_check n word) [] e (omega arith))
+
+  pub other_length : (length word ≡ n + 1 → ⊥) → refused 12 (n + 1) ≡ judge (word_check n word ∷ [])
+  other_length other = ap (refused 12) (place_length n word other) ∙ refuses (sym (bad_length n word other))
+
+  module _ (long : length word ≡ n + 1) where
+    pub offence : (face : ℕ) → face < length word → first_offence letter_d word ≡ face → refused 12 face ≡ judge (word_check n word ∷ [])
+    offence face h e =
+        ap (refused 12) (place_legal n word long face (sym e))
+        ∙ refuses (sym (bad_legal n word long face (sym e)) ∙ rw (ne_eqb face (length word) (λ q. omega arith)) refl)
+
+    pub no_offence : first_offence letter_d word ≡ length word → passed ≡ judge (word_check n word ∷ [])
+    no_offence e =
+        sym (judge_on (word_check n word) [] (sym (bad_legal n word long (length word) (sym e)) ∙ rw (eq-eqb (length word) (length word) refl) refl))
+
+  pub word_passed : passed ≡ judge (word_check n word ∷ []) → bad_word n word ≡ false
+  word_passed e = by_test (bad_word n word) refl
+    where
+      by_test : (b : Bool) → bad_word n word ≡ b → bad_word n word ≡ false
+      by_test true q = let r : passed ≡ refused 12 (word_place n word) = e ∙ sym (refuses q) in absurd (let z = ap (λ (o : Outcome). o.number) r in omega arith)
+      by_test false q = q
 
 -- where the check does not refuse, the word has the right length and is legal, and the other way round
 module _ (n : ℕ) (word : List ℕ) where

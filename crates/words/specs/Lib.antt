@@ -2,3 +2,5 @@
 pub mod Words
 pub mod Judging
 pub mod Places
+pub mod Offence
+pub mod Judged

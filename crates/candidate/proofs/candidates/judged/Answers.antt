@@ -1,19 +1,12 @@
--- `candidate::judged` of the candidate meets its contract: below the road's checks, check by check.
-use Rattle.std.proofs.Common.{ℕ, Bool, refl, ◌∙◌, ap₂}
-use Rattle.choice.specs.Choice.{pick, or}
-use Rattle.road.specs.Judgement.{road_refusal}
-use Rattle.refusal.proofs.Table.{next_check}
-use Rattle.candidate.specs.Candidate.{candidate_refusal}
+-- `candidate::judged` meets its contract: a refusal of the road is the whole table's.
+use Rattle.refusal.proofs.Results.{err_told, refusal_stands}
+use Rattle.road.specs.Judgement.{road_checks, road_refusal}
+use Rattle.candidate.specs.Candidate.{estimate_checks, candidate_refusal}
 use Rattle.candidate.proofs.candidates.judged.Goals as goal
 
-pub returns : goal.returns
+pub returns-in_err-road-clause-refusal : goal.returns-in_err-road-clause-refusal
 unfolding candidate_refusal road_refusal
-returns c =
-    c.or_if-2.ensures
-    ∙ next_check 14
-    (c.or_if.ensures ∙ next_check 13 c.judged.ensures c.bad_mode-bad_mode.ensures refl)
-    (c.either-bad.ensures
-    ∙ ap₂ or c.bad_estimate-bad_left.ensures
-    (c.either.ensures ∙ ap₂ or c.bad_estimate-bad_own.ensures c.bad_estimate-bad_right.ensures))
-    (c.estimate_place-place.ensures
-    ∙ ap₂ (λ (a b : Bool). pick {A = ℕ} a 1 (pick b 2 3)) c.bad_estimate-bad_left.ensures c.bad_estimate-bad_own.ensures)
+returns-in_err-road-clause-refusal c =
+    let a = c.args in
+    err_told c.in_err-road.field-0.0 c.from_residual.result c.from_residual.ensures.1
+    (refusal_stands c.in_err-road.field-0.0 (road_checks a.road) (estimate_checks a.road a.mode a.left a.own a.right) c.in_err-road.ensures.refusal)

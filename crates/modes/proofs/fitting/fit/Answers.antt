@@ -1,21 +1,15 @@
--- `modes::fit` meets its contract: refused by the table, otherwise compared.
-use Rattle.refusal.proofs.Parts.{same_number}
-use Rattle.refusal.proofs.Calls.{checked}
-use Rattle.modes.proofs.FitAnswers.{fit_call, refused, done}
+-- `modes::fit` meets its contract: refused by the judgement, otherwise compared.
+use Rattle.modes.proofs.FitAnswers.{refused_by, done_by}
 use Rattle.modes.proofs.fitting.fit.Goals as goal
 
-pub returns-then-refusal-ne0 : goal.returns-then-refusal-ne0
-returns-then-refusal-ne0 c =
-    refused c.args.road c.args.cells.now c.args.up c.args.down c.args.word.now
-    c.judged-refusal.result c.judged-refusal.ensures c.if-refusal-ne0.true
-
--- past the branch nothing is refused
-pub compared-requires : goal.compared-requires
-compared-requires c =
-    checked (fit_call c.args.road c.args.cells.now c.args.up c.args.down c.args.word.now)
-    (same_number c.judged-refusal.ensures c.if-refusal-ne0.false)
+pub returns-in_err-accepted : goal.returns-in_err-accepted
+returns-in_err-accepted c =
+    let a = c.args in
+    refused_by a.road a.cells.now a.up a.down a.word.now
+    c.in_err-accepted.field-0.0 c.from_residual.result c.from_residual.ensures.1 c.in_err-accepted.ensures.refusal
 
 pub returns : goal.returns
 returns c =
-    done c.args.road c.args.cells.now c.args.up c.args.down c.args.word.now
-    (same_number c.judged-refusal.ensures c.if-refusal-ne0.false) c.compared.result c.compared.ensures
+    let a = c.args in
+    done_by a.road a.cells.now a.up a.down a.word.now
+    c.in_ok-accepted.accepted c.in_ok-accepted.ensures.word c.in_ok-accepted.ensures.refusal _ c.first_misfit.ensures

@@ -1,15 +1,13 @@
--- `modes::count_of` meets its contract: the loop keeps `Counting`, which bounds the count.
-use Rattle.std.proofs.Common.{arith}
-use Rattle.modes.proofs.CountLoop.{modes_counted, few, turns, ends}
+-- `modes::count_of` meets its contract: its chain counts those that pass the test.
+use Rattle.std.proofs.Common.{◌≡◌, ◌∙◌, sym, rules}
+use lib.Dec.{eqb}
+use Rattle.std.specs.List.{count_by}
+use Rattle.modes.specs.Codes.{code_of}
+use Rattle.modes.proofs.Counted.{modes_counted}
 use Rattle.modes.proofs.tallying.count_of.Goals as goal
 
-pub overflow_add-count : goal.overflow_add-count
-overflow_add-count c =
-    let counted = modes_counted c.args.mode in
-    omega (arith, few counted (turns counted c.loop-i.invariant c.loop-i-test.true c.one_if-count.ensures), c.requires)
-
-pub loop-i-preserved : goal.loop-i-preserved
-loop-i-preserved c = turns (modes_counted c.args.mode) c.loop-i.invariant c.loop-i-test.true c.one_if-count.ensures
-
 pub returns : goal.returns
-returns c = ends (modes_counted c.args.mode) c.loop-i.invariant c.loop-i-test.false
+returns c =
+    let k = code_of c.args.mode in
+    let counted : c.count.result ≡ count_by (λ m. eqb m k) c.args.modes.now = search rules in
+    counted ∙ sym (modes_counted k c.args.modes.now)

@@ -1,15 +1,12 @@
--- `modes::queued` meets its contract: the loop keeps `Counting`, which bounds the count.
-use Rattle.std.proofs.Common.{arith}
-use Rattle.modes.proofs.CountLoop.{cells_counted, few, turns, ends}
+-- `modes::queued` meets its contract: its chain counts those that pass the test.
+use Rattle.std.proofs.Common.{◌≡◌, ◌∙◌, sym, rules}
+use lib.Dec.{ltb}
+use Rattle.std.specs.List.{count_by}
+use Rattle.modes.proofs.Counted.{cells_counted}
 use Rattle.modes.proofs.tallying.queued.Goals as goal
 
-pub overflow_add-queued : goal.overflow_add-queued
-overflow_add-queued c =
-    let counted = cells_counted c.args.critical in
-    omega (arith, few counted (turns counted c.loop-cell.invariant c.loop-cell-test.true c.one_if-queued.ensures), c.requires)
-
-pub loop-cell-preserved : goal.loop-cell-preserved
-loop-cell-preserved c = turns (cells_counted c.args.critical) c.loop-cell.invariant c.loop-cell-test.true c.one_if-queued.ensures
-
 pub returns : goal.returns
-returns c = ends (cells_counted c.args.critical) c.loop-cell.invariant c.loop-cell-test.false
+returns c = 
+    let s = c.args.state in
+    let counted : c.count.result ≡ count_by (ltb s.road.road.critical) s.cells.now = search rules in
+    counted ∙ sym (cells_counted s.road.road.critical s.cells.now)

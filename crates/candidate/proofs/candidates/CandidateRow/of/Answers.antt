@@ -1,21 +1,34 @@
 -- `candidate::CandidateRow::of` meets its contract: four whole numbers, each as a float.
-use Rattle.std.proofs.Common.{ap, ◌∙◌, le_trans, lit≤}
+use Rattle.std.proofs.Common.{ap}
 use lib.Ieee.{binary64, of_int}
-use Rattle.rows.specs.Coefficients.{whole_row_of}
-use Rattle.rows.specs.declared.numerators.WholeRow.{WholeRow}
+use Rattle.modes.specs.Codes.{code_of}
 use Rattle.candidate.specs.Candidate.{row_for}
-use Rattle.rows.proofs.Sizes.{exact_in_i64}
-use Rattle.rows.proofs.Coefficients.{sized}
+use Rattle.candidate.proofs.Exact.{RowReads, row_reads}
+use Rattle.candidate.proofs.candidates.CandidateRow.of.Goals.{After-of-row}
 use Rattle.candidate.proofs.candidates.CandidateRow.of.Goals as goal
 
+reads : (c : After-of-row) → RowReads c.args.road.road (code_of c.args.mode) c.of-row.result
+reads c = row_reads c.args.road.road c.args.road.accepted c.args.mode c.of-row.result c.of-row.ensures
+
+pub int_to_float-result : goal.int_to_float-result
+int_to_float-result c = (reads (goal.at.int_to_float-result c).After-of-row).left.exact
+
+pub int_to_float-result-2 : goal.int_to_float-result-2
+int_to_float-result-2 c = (reads (goal.at.int_to_float-result-2 c).After-of-row).own.exact
+
+pub int_to_float-result-3 : goal.int_to_float-result-3
+int_to_float-result-3 c = (reads (goal.at.int_to_float-result-3 c).After-of-row).right.exact
+
+pub int_to_float-result-4 : goal.int_to_float-result-4
+int_to_float-result-4 c = (reads (goal.at.int_to_float-result-4 c).After-of-row).constant.exact
+
 pub returns : goal.returns
-unfolding row_for whole_row_of
+unfolding row_for
 returns c =
-    let same = c.of-row.ensures in
-    let small = sized c.args.mode c.requires.le_mode c.requires.mode_bound c.args.road c.requires.accepted in
+    let row = reads (goal.at.returns c).After-of-row in
     λ i. record {
-      left = (c.float_of.ensures ∙ ap (of_int binary64) (exact_in_i64 (ap (λ (row : WholeRow). row.left) same) (le_trans small.left_small (lit≤ tt)))) i;
-      own = (c.float_of-2.ensures ∙ ap (of_int binary64) (exact_in_i64 (ap (λ (row : WholeRow). row.own) same) (le_trans small.own_small (lit≤ tt)))) i;
-      right = (c.float_of-3.ensures ∙ ap (of_int binary64) (exact_in_i64 (ap (λ (row : WholeRow). row.right) same) (le_trans small.right_small (lit≤ tt)))) i;
-      constant = (c.float_of-4.ensures ∙ ap (of_int binary64) (exact_in_i64 (ap (λ (row : WholeRow). row.constant) same) (le_trans small.constant_small (lit≤ tt)))) i;
+      left = ap (of_int binary64) row.left.same i;
+      own = ap (of_int binary64) row.own.same i;
+      right = ap (of_int binary64) row.right.same i;
+      constant = ap (of_int binary64) row.constant.same i;
     }
