@@ -1,5 +1,5 @@
 -- What reading and fit test answer, read off their results, as document 01 tells it.
-use Rattle.std.specs.Prelude.{◌≡◌, Bool, true, false, List, [], ◌∷◌, Option, None, Some, Result, Ok, Err, ℕ}
+use Rattle.std.specs.Prelude.{Bool, true, false, [], ◌∷◌, Option, None, Some, Result, Ok, Err, ℕ}
 use Rattle.refusal.specs.Answer.{Answer, Done, Refused, outcome_of}
 use Rattle.refusal.specs.declared.Refusal.{Refusal}
 use Rattle.modes.specs.declared.reading.Counts.{Counts}

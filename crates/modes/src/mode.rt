@@ -8,6 +8,7 @@ use refusal::Refusal;
 
 // The letters' codes, which a word is made of: its bytes are the C interface.
 const W: u8 = Letter::W as u8;
+
 const L: u8 = Letter::L as u8;
 
 // A cell's mode, by the letters of its left and its right face.
@@ -24,7 +25,15 @@ pub enum Mode {
 
 impl Mode {
     // In the order of their codes.
-    pub const ALL: [Mode; 7] = [Mode::WW, Mode::WL, Mode::LW, Mode::LD, Mode::DW, Mode::DL, Mode::DD];
+    pub const ALL: [Mode; 7] = [
+        Mode::WW,
+        Mode::WL,
+        Mode::LW,
+        Mode::LD,
+        Mode::DW,
+        Mode::DL,
+        Mode::DD,
+    ];
 
     // The mode's code in a list of modes, 1 to 7.
     pub fn code(self) -> u8

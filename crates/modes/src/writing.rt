@@ -7,18 +7,19 @@ use super::mode::Mode;
 use checks::AcceptedState;
 use flux::Letter;
 
-// Internal: the list then holds the letter of every face. The left density is carried along, so that each cell is read
-// once.
+// Internal: the list then holds the letter of every face. Both cells of a face are read by their places: with the left one
+// carried along the loop is not vectorized, and takes three times as long.
 pub fn write_letters(state: AcceptedState, letters: &mut [u8])
     requires { length letters.old ≡ length state.cells.now + 1 }
     ensures { letters.new ≡ word_of state.entry.road.road state.entry.up state.entry.down state.entry.cells.now }
 {
-    let mut left = state.up;
-    for (face, own) in state.cells.iter().enumerate() {
-        letters[face] = Letter::between(state.road, left, *own).code();
-        left = *own;
+    let cells = state.cells;
+    let last = cells.len();
+    letters[0] = Letter::between(state.road, state.up, cells[0]).code();
+    for face in 1..last {
+        letters[face] = Letter::between(state.road, cells[face - 1], cells[face]).code();
     }
-    letters[state.cells.len()] = Letter::between(state.road, left, state.down).code();
+    letters[last] = Letter::between(state.road, cells[last - 1], state.down).code();
 }
 
 // Internal: the list then holds the mode of every cell.

@@ -17,7 +17,7 @@ const D: u8 = Letter::D as u8;
 fn is_illegal(s: u8, t: u8) -> bool
     ensures { result ≡ illegal_pair s t }
 {
-    matches!((s, t), (W, D) | (L, L))
+    (s == W && t == D) || (s == L && t == L)
 }
 
 // Internal: whether a face offends, after the letter before it: by an unknown code, or as the second of an illegal pair.

@@ -1,6 +1,4 @@
 -- `modes::read` meets its contract: refused, nothing is written; otherwise the letters, then the modes of the letters, then the counts of the modes and the queued cells.
-use Rattle.std.proofs.Common.{◌≡◌, arith, length}
-use Rattle.scheme.specs.Word.{word_of}
 use Rattle.modes.proofs.ReadAnswers.{refused_by, passes, checked, word_long, few_modes, done}
 use Rattle.modes.proofs.reading.read.Goals as goal
 

@@ -1,13 +1,6 @@
--- `modes::count_of` meets its contract: its chain counts those that pass the test.
-use Rattle.std.proofs.Common.{◌≡◌, ◌∙◌, sym, rules}
-use lib.Dec.{eqb}
-use Rattle.std.specs.List.{count_by}
-use Rattle.modes.specs.Codes.{code_of}
+-- `modes::count_of` meets its contract: at the end all are counted.
 use Rattle.modes.proofs.Counted.{modes_counted}
 use Rattle.modes.proofs.tallying.count_of.Goals as goal
 
 pub returns : goal.returns
-returns c =
-    let k = code_of c.args.mode in
-    let counted : c.count.result ≡ count_by (λ m. eqb m k) c.args.modes.now = search rules in
-    counted ∙ sym (modes_counted k c.args.modes.now)
+returns c = rw (← c.code-code.ensures) (modes_counted _ c.args.modes.now c.loop-m.invariant c.loop-m-test.false)
