@@ -1,7 +1,4 @@
 // The text: from a file or from standard input, whole or not at all.
-ghost use Rattle.std.specs.Prelude.{◌≤◌, IfOk, length};
-ghost use Rattle.io.specs.Counts.{IsPrefixLen};
-
 use cli_arguments::options::Source;
 use cli_arguments::words;
 use cli_request::Status;
@@ -46,37 +43,30 @@ impl Unread {
     }
 }
 
-// All that a reader gives, where it leaves room; how many bytes. A read brings as many as it likes, so that no `for` steps
-// through them.
-fn filled<R: Read>(from: &mut R, room: &mut [u8]) -> Result<usize, Unread>
-    ensures { IfOk result (λ n. IsPrefixLen n room.new) }
-{
+// All that a reader gives, where it leaves room. A read brings as many bytes as it likes: no `for` steps through them.
+fn filled<'a, R: Read>(from: &mut R, room: &'a mut [u8]) -> Result<&'a [u8], Unread> {
     let mut end = 0;
     while end < room.len() {
         match from.read(&mut room[end..])? {
-            0 => return Ok(end),
+            0 => return Ok(&room[..end]),
             count => end += count,
         }
     }
     Err(Unread::TooLong)
 }
 
-fn of_file<R: Files>(rt: &R, path: &[u8], room: &mut [u8]) -> Result<usize, Unread>
-    ensures { IfOk result (λ n. IsPrefixLen n room.new) }
-{
+fn of_file<'a, R: Files>(rt: &R, path: &[u8], room: &'a mut [u8]) -> Result<&'a [u8], Unread> {
     let mut file = File::open(rt, words::path(path)?)?;
     filled(&mut file, room)
 }
 
-// The text of a source, at the start of the room; how many bytes, or the status where it is not there.
-pub fn read<R: Env + Files + Input>(
+// The text of a source, at the start of the room, or the status where it is not there.
+pub fn read<'a, R: Env + Files + Input>(
     rt: &R,
     streams: Streams,
     source: Source,
-    room: &mut [u8],
-) -> Result<usize, Status>
-    ensures { IfOk result (λ n. IsPrefixLen n room.new) }
-{
+    room: &'a mut [u8],
+) -> Result<&'a [u8], Status> {
     match source {
         Source::StandardInput => filled(&mut rt.reader(), room).map_err(|unread| unread.tell(
             streams,

@@ -4,4 +4,4 @@
 pub mod errors;
 pub mod input;
 pub mod needs;
-pub mod pointing;
+mod pointing;

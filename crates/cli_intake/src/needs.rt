@@ -20,7 +20,7 @@ pub enum Unmet {
 }
 
 // The keys that an action needs. A candidate and a station need more, of which they leave a choice.
-pub fn needed(action: Action) -> &'static [Key] {
+pub(crate) fn needed(action: Action) -> &'static [Key] {
     match action {
         Action::Forecast => &[
             Key::Road,
@@ -53,7 +53,7 @@ fn goes_nowhere(text: &[u8]) -> bool {
 }
 
 // Whether a text lacks a key that it needs. Only a forecast of no step goes without ends.
-pub fn lacks(text: &[u8], key: Key) -> bool {
+pub(crate) fn lacks(text: &[u8], key: Key) -> bool {
     let is_spared = matches!(key, Key::Upstream | Key::Downstream) && goes_nowhere(text);
     !is_given(text, key) && !is_spared
 }
@@ -92,7 +92,10 @@ fn has(text: &[u8], action: Action) -> Result<(), Unmet> {
 
 // That a text can be acted on: it asks for something, and for nothing that it does not give what it needs.
 pub fn met(text: &[u8], draws: bool) -> Result<(), Unmet> {
-    if !Action::ALL.iter().any(|action| is_given(text, action.key())) {
+    if !Action::ALL
+        .iter()
+        .any(|action| is_given(text, action.key()))
+    {
         return Err(Unmet::NoAction);
     }
     if draws && !is_given(text, Key::Forecast) {

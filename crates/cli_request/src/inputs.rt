@@ -1,6 +1,7 @@
 // What a text gives to an action: a state with its ends, or all that a forecast takes.
-ghost use Rattle.std.specs.Prelude.{◌≡◌, IfOk};
+ghost use Rattle.std.specs.Prelude.{◌≡◌, IfOk, length, min};
 ghost use Rattle.arrayvec.specs.ArrayVec.{array_vec_len};
+ghost use Rattle.cli_scenario.specs.Values.{values_of};
 
 use super::numbers::{CELLS, ENDS, FACES};
 use super::refusals::{Lengths, Refused};
@@ -23,7 +24,9 @@ pub struct State {
 
 impl State {
     // The state at the start.
-    pub fn of(text: &[u8]) -> State {
+    pub fn of(text: &[u8]) -> State
+        ensures { array_vec_len result.cells ≡ min (length (values_of Key.Cells text.now)) CELLS }
+    {
         State::at(text, numbers::list(text, Key::Cells))
     }
 
@@ -65,7 +68,9 @@ pub struct Forecast {
 }
 
 impl Forecast {
-    pub fn of(text: &[u8]) -> Forecast {
+    pub fn of(text: &[u8]) -> Forecast
+        ensures { array_vec_len result.cells ≡ min (length (values_of Key.Cells text.now)) CELLS }
+    {
         let cells: ArrayVec<u32, CELLS> = numbers::list(text, Key::Cells);
         let [horizon]: [u32; 1] = numbers::numbers(text, Key::Horizon);
         Forecast {

@@ -2,16 +2,16 @@
 // of what was done.
 #![tactic(auto)]
 
-pub mod action;
+mod action;
 pub mod caps;
-pub mod inputs;
+mod inputs;
 pub mod keys;
 pub mod numbers;
-pub mod refusals;
-pub mod status;
+mod refusals;
+mod status;
 
 pub use action::Action;
 pub use inputs::{Forecast, State};
 pub use keys::is_given;
-pub use refusals::Refused;
+pub use refusals::{Lengths, Refused};
 pub use status::Status;

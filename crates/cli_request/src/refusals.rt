@@ -181,7 +181,7 @@ impl Refused {
     }
 }
 
-// An estimate, of which the place says which it is.
+// An estimate, of which the place says which it is: 1, 2 or 3 in the refusal table, which C reads too.
 fn of_estimate(page: &mut Page, place: u32) {
     let which = match place {
         1 => "left",

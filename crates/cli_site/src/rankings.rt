@@ -36,7 +36,7 @@ fn report(page: &mut Page, cells: &[u32], numbers: &[u32], changes: &[i32]) {
     }
 }
 
-// The ranking of a text's cells.
+// The ranking of a text's cells. Its numbers and changes are two lists, as the public call `nearest` fills them.
 pub fn act(page: &mut Page, text: &[u8]) -> Result<(), Refused> {
     let state = State::of(text);
     let mut numbers: ArrayVec<u32, CELLS> = numbers::filled(0, state.cells.len());

@@ -8,7 +8,7 @@ use cli_site::{rankings, stations};
 use printing::Page;
 use std::rt::{Env, Files};
 
-// One action of the text; the status.
+// One action of the text; the status. Each takes what it needs: a table of functions, all of one type, would be no plainer.
 fn done<R: Env + Files>(
     rt: &R,
     page: &mut Page,

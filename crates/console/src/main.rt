@@ -32,7 +32,7 @@ fn unmarked(text: &[u8]) -> &[u8] {
 fn read_and_work<R: Env + Files + Input>(rt: &R, page: &mut Page, o: Options) -> Status {
     let mut room = [0; input::ROOM];
     match input::read(rt, page.streams(), o.source, &mut room) {
-        Ok(n) => work(rt, page, o, unmarked(&room[..n])),
+        Ok(text) => work(rt, page, o, unmarked(text)),
         Err(status) => status,
     }
 }
