@@ -4,9 +4,11 @@ use Prim.Native.Nat.{ℕ}
 use native.Mathlib.Omega.{arith}
 use lib.Dec.{eqb}
 use borrow.Author.Tests.{eq-eqb, ne_eqb}
+use mathlib.Core.Bool.{Bool, true, false}
+use mir.Val.{bool_byte}
 use Rattle.choice.specs.Choice.{pick}
 use Rattle.refusal.specs.Outcome.{Outcome}
-use Rattle.welgadou.specs.Parts.{written}
+use Rattle.welgadou.specs.Parts.{written, flag_of}
 
 -- what the answer means that was matched is what the call's definition says
 pub meaning_along : {A M : Type 0} {a b : A} {defined : M} (meaning : A → M) → a ≡ b → meaning a ≡ defined → meaning b ≡ defined
@@ -25,3 +27,8 @@ refusal_counts {number = number} refused not_done answer same z =
 -- and what stands behind a pointer, whatever its type, is its former contents
 pub former_when_refused : {C : Type 0} {returned : ℕ} → (returned ≡ 0 → ⊥) → (value former : C) → former ≡ written returned value former
 former_when_refused {returned = returned} counts value former = rw (ne_eqb returned 0 counts) refl
+
+-- a flag is the number of a bool
+pub flag_is : (b : Bool) → bool_byte b ≡ flag_of b
+flag_is true = refl
+flag_is false = refl

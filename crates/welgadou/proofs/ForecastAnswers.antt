@@ -4,15 +4,14 @@ use mathlib.Core.List.{List}
 use Prim.Native.Nat.{ℕ}
 use lib.ListN.{length}
 use Rattle.refusal.specs.Table.{refused}
+use Rattle.refusal.specs.Answer.{Done, Refused}
 use Rattle.road.specs.declared.Road.{Road}
 use Rattle.refusal.specs.Outcome.{Outcome}
 use Rattle.scheme.specs.declared.many_steps.Totals.{Totals}
 use Rattle.scheme.specs.declared.settling.Settled.{Settled}
 use Rattle.forecast.specs.declared.forecasting.Record.{Record}
 use Rattle.forecast.specs.Answers.{ForecastAnswer}
-use Rattle.refusal.specs.Answer as F
 use Rattle.forecast.specs.Answers.{SettleAnswer}
-use Rattle.refusal.specs.Answer as S
 use Rattle.forecast.specs.Forecast as Forecast
 use Rattle.forecast.specs.Forecast.{forecast_answer, forecast_meaning, ForecastJudged}
 use Rattle.forecast.specs.Settle as Settle
@@ -26,7 +25,7 @@ module _ {r : Road} {caps cells ups downs : List ℕ} {t : ℕ} {totals : Totals
   forecast_told e =
       judged_told (ForecastJudged r caps cells ups downs t totals (length out)) (λ (x : ForecastAnswer). refused (Forecast.meaning x).number (Forecast.meaning x).place) e forecasts.judged
 
-  pub forecast_done : {d : Record} {entered left : ℕ} → a ≡ F.Done d → Forecasted r caps cells ups downs t out next entered d.own.entered left d.own.left totals d.totals 0 0
+  pub forecast_done : {d : Record} {entered left : ℕ} → a ≡ Done d → Forecasted r caps cells ups downs t out next entered d.own.entered left d.own.left totals d.totals 0 0
   forecast_done {d} e =
       let m = meaning_along Forecast.meaning e forecasts.means in
       record {
@@ -43,7 +42,7 @@ module _ {r : Road} {caps cells ups downs : List ℕ} {t : ℕ} {totals : Totals
         carried = λ z. forecasts.carried d e;
       }
 
-  pub forecast_refused : {f : Outcome} {entered left : ℕ} → a ≡ F.Refused f → Forecasted r caps cells ups downs t out next entered entered left left totals totals f.place f.number
+  pub forecast_refused : {f : Outcome} {entered left : ℕ} → a ≡ Refused f → Forecasted r caps cells ups downs t out next entered entered left left totals totals f.place f.number
   unfolding forecast_answer forecast_meaning
   forecast_refused {f} e =
       let m = meaning_along Forecast.meaning e forecasts.means in
@@ -68,7 +67,7 @@ module _ {r : Road} {caps cells : List ℕ} {up down t : ℕ} {out next : List �
   settle_told e =
       judged_told (SettleJudged r caps cells up down t (length out)) (λ (x : SettleAnswer). refused (Settle.meaning x).number (Settle.meaning x).place) e settles.judged
 
-  pub settle_done : {d : Settled} {settled steps flag : ℕ} → a ≡ S.Done d → flag ≡ flag_of d.settled → SettledRun r caps cells up down t out next settled flag steps d.steps 0 0
+  pub settle_done : {d : Settled} {settled steps flag : ℕ} → a ≡ Done d → flag ≡ flag_of d.settled → SettledRun r caps cells up down t out next settled flag steps d.steps 0 0
   settle_done {d} e q =
       let m = meaning_along Settle.meaning e settles.means in
       record {
@@ -81,7 +80,7 @@ module _ {r : Road} {caps cells : List ℕ} {up down t : ℕ} {out next : List �
         settlement = λ z. (d.settled, q, settles.settlement d e);
       }
 
-  pub settle_refused : {f : Outcome} {settled steps : ℕ} → a ≡ S.Refused f → SettledRun r caps cells up down t out next settled settled steps steps f.place f.number
+  pub settle_refused : {f : Outcome} {settled steps : ℕ} → a ≡ Refused f → SettledRun r caps cells up down t out next settled settled steps steps f.place f.number
   unfolding settle_answer settle_meaning
   settle_refused {f} e =
       let m = meaning_along Settle.meaning e settles.means in

@@ -9,21 +9,18 @@ use lib.Ieee.{Float}
 use lib.ListN.{length}
 use borrow.Author.Tests.{eq-eqb}
 use Rattle.refusal.specs.Table.{refused}
+use Rattle.refusal.specs.Answer.{Done, Refused}
 use Rattle.road.specs.declared.Road.{Road}
 use Rattle.refusal.specs.Outcome.{Outcome}
 use Rattle.modes.specs.Answers.{ReadAnswer}
-use Rattle.refusal.specs.Answer as R
 use Rattle.modes.specs.Answers.{StateReading}
 use Rattle.modes.specs.Answers.{FitResult}
 use Rattle.modes.specs.Answers.{FitAnswer}
-use Rattle.refusal.specs.Answer as F
 use Rattle.rows.specs.Answers.{PredictAnswer}
 use Rattle.candidate.specs.declared.candidates.CandidateResult.{CandidateResult}
 use Rattle.candidate.specs.Answers.{CandidateAnswer}
-use Rattle.refusal.specs.Answer as C
 use Rattle.counting.specs.declared.counting.WordCount.{WordCount}
 use Rattle.counting.specs.Answers.{CountAnswer}
-use Rattle.refusal.specs.Answer as W
 use Rattle.modes.specs.Reading.{read_number, read_place, read_answer, ReadJudged, Reads}
 use Rattle.modes.specs.Fit as Fit
 use Rattle.modes.specs.Fit.{fit_answer, fit_meaning, FitJudged}
@@ -42,7 +39,7 @@ module _ {r : Road} {cells : List ℕ} {up down : ℕ} {letters letters-next mod
   read_told e =
       judged_told (ReadJudged r cells up down (length letters) (length modes)) (λ (x : ReadAnswer). refused (read_number x) (read_place x)) e reads.judged
 
-  pub read_done : {counts : List ℕ} {queued : ℕ} → a.answer ≡ R.Done tt
+  pub read_done : {counts : List ℕ} {queued : ℕ} → a.answer ≡ Done tt
       → StateRead r cells up down letters letters-next modes modes-next counts a.counts.modes queued a.counts.queued 0 0
   read_done e = record {
     returned = meaning_along read_number e reads.number;
@@ -55,7 +52,7 @@ module _ {r : Road} {cells : List ℕ} {up down : ℕ} {letters letters-next mod
     state = λ z. reads.state e;
   }
 
-  pub read_refused : {f : Outcome} {counts : List ℕ} {queued : ℕ} → a.answer ≡ R.Refused f
+  pub read_refused : {f : Outcome} {counts : List ℕ} {queued : ℕ} → a.answer ≡ Refused f
       → StateRead r cells up down letters letters-next modes modes-next counts counts queued queued f.place f.number
   unfolding read_answer
   read_refused {f} e =
@@ -77,7 +74,7 @@ module _ {r : Road} {cells : List ℕ} {up down : ℕ} {word : List ℕ} {a : Fi
   fit_told : {b : FitAnswer} → a ≡ b → FitJudged r cells up down word (refused (Fit.meaning b).number (Fit.meaning b).place)
   fit_told e = judged_told (FitJudged r cells up down word) (λ (x : FitAnswer). refused (Fit.meaning x).number (Fit.meaning x).place) e fits.judged
 
-  pub fit_done : {d : FitResult} {holds face flag : ℕ} → a ≡ F.Done d → flag ≡ flag_of d.holds → WordFitted r cells up down word holds flag face d.face 0 0
+  pub fit_done : {d : FitResult} {holds face flag : ℕ} → a ≡ Done d → flag ≡ flag_of d.holds → WordFitted r cells up down word holds flag face d.face 0 0
   fit_done {d} e q =
       let m = meaning_along Fit.meaning e fits.means in
       record {
@@ -89,7 +86,7 @@ module _ {r : Road} {cells : List ℕ} {up down : ℕ} {word : List ℕ} {a : Fi
         state = λ z. (d.holds, q, fits.state d e);
       }
 
-  pub fit_refused : {f : Outcome} {holds face : ℕ} → a ≡ F.Refused f → WordFitted r cells up down word holds holds face face f.place f.number
+  pub fit_refused : {f : Outcome} {holds face : ℕ} → a ≡ Refused f → WordFitted r cells up down word holds holds face face f.place f.number
   unfolding fit_answer fit_meaning
   fit_refused {f} e =
       let m = meaning_along Fit.meaning e fits.means in
@@ -135,7 +132,7 @@ module _ {r : Road} {mode byte : ℕ} {left own right : Float} {a : CandidateAns
   candidate_told : {b : CandidateAnswer} → a ≡ b → CandidateJudged r mode left own right (refused (Candidate.meaning b).number (Candidate.meaning b).place)
   candidate_told e = judged_told (CandidateJudged r mode left own right) (λ (x : CandidateAnswer). refused (Candidate.meaning x).number (Candidate.meaning x).place) e candidates.judged
 
-  pub candidate_done : {d : CandidateResult} {numerator : Float} → a ≡ C.Done d → CandidatePredicted r mode left own right numerator d.numerator 0 0
+  pub candidate_done : {d : CandidateResult} {numerator : Float} → a ≡ Done d → CandidatePredicted r mode left own right numerator d.numerator 0 0
   candidate_done {d} e =
       let m = meaning_along Candidate.meaning e candidates.means in
       record {
@@ -148,7 +145,7 @@ module _ {r : Road} {mode byte : ℕ} {left own right : Float} {a : CandidateAns
         plain = λ z. candidates.plain d e;
       }
 
-  pub candidate_refused : {f : Outcome} {numerator : Float} → a ≡ C.Refused f → CandidatePredicted r mode left own right numerator numerator f.place f.number
+  pub candidate_refused : {f : Outcome} {numerator : Float} → a ≡ Refused f → CandidatePredicted r mode left own right numerator numerator f.place f.number
   unfolding candidate_answer candidate_meaning
   candidate_refused {f} e =
       let m = meaning_along Candidate.meaning e candidates.means in
@@ -168,7 +165,7 @@ module _ {cells : ℕ} {a : CountAnswer} (called : Count.CountsWords cells a) wh
   count_told : {b : CountAnswer} → a ≡ b → CountJudged cells (refused (Count.meaning b).number (Count.meaning b).place)
   count_told e = judged_told (CountJudged cells) (λ (x : CountAnswer). refused (Count.meaning x).number (Count.meaning x).place) e called.judged
 
-  pub count_done : {d : WordCount} {words : ℕ} → a ≡ W.Done d → WordsCounted cells words d.words 0 0
+  pub count_done : {d : WordCount} {words : ℕ} → a ≡ Done d → WordsCounted cells words d.words 0 0
   count_done {d} e =
       let m = meaning_along Count.meaning e called.means in
       record {
@@ -179,7 +176,7 @@ module _ {cells : ℕ} {a : CountAnswer} (called : Count.CountsWords cells a) wh
         counted = λ z. called.counted d e;
       }
 
-  pub count_refused : {f : Outcome} {words : ℕ} → a ≡ W.Refused f → WordsCounted cells words words f.place f.number
+  pub count_refused : {f : Outcome} {words : ℕ} → a ≡ Refused f → WordsCounted cells words words f.place f.number
   unfolding count_answer count_meaning
   count_refused {f} e =
       let m = meaning_along Count.meaning e called.means in

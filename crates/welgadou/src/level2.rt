@@ -33,7 +33,8 @@ pub fn welgadou_read(
     };
     match modes::read(road, cells, upstream, downstream, letters, modes) {
         Ok(tally) => {
-            *counts = tally.modes;
+            let seven = tally.modes;
+            *counts = seven;
             *queued = tally.queued;
             *place = 0;
             0
@@ -68,9 +69,15 @@ pub fn welgadou_fit(
         critical,
     };
     match modes::fit(road, cells, upstream, downstream, word) {
-        Ok(misfit) => {
-            *holds = u32::from(misfit.is_none());
-            *face = misfit.unwrap_or(0);
+        Ok(None) => {
+            *holds = 1;
+            *face = 0;
+            *place = 0;
+            0
+        }
+        Ok(Some(lowest)) => {
+            *holds = 0;
+            *face = lowest;
             *place = 0;
             0
         }

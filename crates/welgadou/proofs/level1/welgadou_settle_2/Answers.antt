@@ -1,9 +1,12 @@
 -- `welgadou_settle_2` meets its contract: the answer below, case by case.
+use Rattle.std.proofs.Common.{◌∙◌, ap}
+use Rattle.refusal.specs.Answer.{answer_of}
+use Rattle.welgadou.proofs.Answers.{flag_is}
 use Rattle.welgadou.proofs.ForecastAnswers.{settle_done, settle_refused}
 use Rattle.welgadou.proofs.level1.welgadou_settle_2.Goals as goal
 
-pub returns-in-Done : goal.returns-in-Done
-returns-in-Done c = settle_done c.settle.ensures c.in-Done.is c.flag.ensures
+pub returns-in-Ok : goal.returns-in-Ok
+returns-in-Ok c = settle_done c.settle.ensures (ap answer_of c.in-Ok.is) (c.from.ensures ∙ flag_is c.in-Ok.run'.settled)
 
-pub returns-in-Refused : goal.returns-in-Refused
-returns-in-Refused c = settle_refused c.settle.ensures c.in-Refused.is
+pub returns-in-Err : goal.returns-in-Err
+returns-in-Err c = rw (c.refused.ensures.number, c.refused.ensures.placed) (settle_refused c.settle.ensures (ap answer_of c.in-Err.is))

@@ -1,6 +1,10 @@
 -- `welgadou_read` meets its contract: the answer below, case by case.
-use Rattle.welgadou.proofs.ModeAnswers.{read_refused}
+use Rattle.std.proofs.Common.{refl}
+use Rattle.welgadou.proofs.ModeAnswers.{read_done, read_refused}
 use Rattle.welgadou.proofs.level2.welgadou_read.Goals as goal
 
-pub returns-in-Refused : goal.returns-in-Refused
-returns-in-Refused c = read_refused c.read-reading.ensures c.in-Refused.is
+pub returns-in-Ok : goal.returns-in-Ok
+returns-in-Ok c = read_done c.in-Ok.ensures refl
+
+pub returns-in-Err : goal.returns-in-Err
+returns-in-Err c = rw (c.refused.ensures.number, c.refused.ensures.placed) (read_refused c.in-Err.ensures refl)

@@ -1,6 +1,11 @@
 -- `welgadou_rows` meets its contract: the answer below, case by case.
+use Rattle.std.proofs.Common.{ap}
+use Rattle.refusal.specs.Answer.{answer_of}
 use Rattle.welgadou.proofs.ModeAnswers.{rows_answered}
 use Rattle.welgadou.proofs.level2.welgadou_rows.Goals as goal
 
-pub returns-in-Refused : goal.returns-in-Refused
-returns-in-Refused c = rows_answered c.predict.ensures _ c.in-Refused.is
+pub returns-in-Ok : goal.returns-in-Ok
+returns-in-Ok c = rows_answered c.predict.ensures _ (ap answer_of c.in-Ok.is)
+
+pub returns-in-Err : goal.returns-in-Err
+returns-in-Err c = rw (c.refused.ensures.number, c.refused.ensures.placed) (rows_answered c.predict.ensures _ (ap answer_of c.in-Err.is))
