@@ -5,7 +5,7 @@ use mathlib.Core.Logic.{inr}
 use Prim.Native.Nat.{ℕ}
 use lib.IntN.{ℤ, pos}
 use lib.Ieee.{Float, fin, binary64, of_int}
-use Rattle.refusal.specs.Outcome.{Outcome}
+use Rattle.refusal.specs.Outcome.{Outcome as Refusal}
 use Rattle.refusal.proofs.Table.{◌&◌}
 use Rattle.road.specs.declared.Road.{Road}
 use Rattle.floats.specs.Worth.{Worth}
@@ -16,7 +16,7 @@ use Rattle.commission.specs.CandidateCall.{EstimatePlace, CalledCandidate, candi
 use Rattle.commission.specs.Table.{mode, estimates, AllNamed}
 use Rattle.commission.proofs.Told.{value_of, former_of, road_named, Told, told_as}
 
-estimate_place_lem : (r : Road) (left own right : Float) (f : Outcome) → CandidatePlaced r left own right f → EstimatePlace r left own right f
+estimate_place_lem : (r : Road) (left own right : Float) (f : Refusal) → CandidatePlaced r left own right f → EstimatePlace r left own right f
 estimate_place_lem r left own right f p e = let w = p e in (w.low, w.high, w.first, w.second, w.third)
 
 candidate_named : (r : Road) (m : ℕ) (left own right : Float) → AllNamed (candidate_checks r m left own right)

@@ -9,7 +9,7 @@ use lib.Ieee.{Float, fin, round, sum, add, mul, div, lt, eq, le, ne, of_int, of_
 use Rattle.choice.specs.Choice.{pick}
 use Rattle.refusal.specs.Table.{check, judge, or_if}
 use Rattle.road.specs.Judgement.{road_checks, road_refusal}
-use Rattle.refusal.specs.Outcome.{Outcome}
+use Rattle.refusal.specs.Outcome.{Outcome as Refusal}
 use Rattle.flux.specs.Face.{sending, receiving, numerator, units, scaled, in_w, in_l, letter}
 use Rattle.checks.specs.Values.{first_index_above}
 use Rattle.scheme.specs.Advance.{ahead, advance, outflow, entering, leaving, stepped}
@@ -34,7 +34,7 @@ use Rattle.commission.specs.Starred.{road_a}
 use Rattle.commission.specs.Requests.{fifth, three_fifths, four_fifths, gives, gives_refusal, Requested}
 
 -- E1: what the checks come to, and the answer, once each check's test is known. The tests are worked first, since the table asks for each many times
-tests : Bool → Bool → Bool → Outcome
+tests : Bool → Bool → Bool → Refusal
 tests given fast outside = judge (road_checks road_a ++ (check given 16 0 ∷ check fast 17 0 ∷ check outside 18 0 ∷ []))
 
 by_tests : (x : StationReading) {given fast outside : Bool} {density : Float}

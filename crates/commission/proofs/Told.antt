@@ -10,7 +10,7 @@ use lib.ListN.{length}
 use borrow.Author.Tests.{eq-eqb, ne_eqb}
 use Rattle.choice.specs.Choice.{pick}
 use Rattle.refusal.specs.Table.{Check, judge, rising, Judged}
-use Rattle.refusal.specs.Outcome.{Outcome}
+use Rattle.refusal.specs.Outcome.{Outcome as Refusal}
 use Rattle.refusal.proofs.Table.{◌&◌}
 use Rattle.road.specs.Judgement.{divisor_check, speeds_check, densities_check, balance_check}
 use Rattle.road.specs.declared.Road.{Road}
@@ -33,14 +33,14 @@ pub former_of : {A : Type 0} {number : ℕ} {got : A} (value former : A) → (nu
 former_of {number = number} value former n e = e ∙ rw (ne_eqb number 0 n) refl
 
 -- the places, told
-pub value_places : {r : Road} {cells ups downs : List ℕ} (f : Outcome) → Placed r cells ups downs f → ValuePlaces r cells ups downs f
+pub value_places : {r : Road} {cells ups downs : List ℕ} (f : Refusal) → Placed r cells ups downs f → ValuePlaces r cells ups downs f
 value_places f p = (
   λ e. let (k, here, first) = p.cell e in (k, here, (first.above, first.earlier)),
   λ e. let first = p.up e in (first.above, first.earlier),
   λ e. let first = p.down e in (first.above, first.earlier),
 )
 
-pub word_places : {r : Road} {cells : List ℕ} {up down : ℕ} {word : List ℕ} (f : Outcome)
+pub word_places : {r : Road} {cells : List ℕ} {up down : ℕ} {word : List ℕ} (f : Refusal)
     → PairWordPlaced r cells up down word f → PairWordPlaces r cells up down word f
 word_places f p = (
   value_places f p.values,
@@ -67,8 +67,8 @@ pub record Told (o : Outcome) : Type 1 where
   pub made : o.refusal.number ≡ 0 → o.Made
 
 -- the judgement of a contract, with its places told otherwise
-pub told_as : {checks : List Check} {Checked : Type 0} {From To : Outcome → Type 0} {f : Outcome}
-    → ((g : Outcome) → From g → To g) → Judged checks Checked From f → Judged checks Checked To f
+pub told_as : {checks : List Check} {Checked : Type 0} {From To : Refusal → Type 0} {f : Refusal}
+    → ((g : Refusal) → From g → To g) → Judged checks Checked From f → Judged checks Checked To f
 told_as {f = f} says j = record { first = j.first; lowest = j.lowest; lower_after = j.lower_after; placed = says f j.placed; accepted = j.accepted; no_other = j.no_other }
 
 -- a flag tells its test

@@ -1,7 +1,7 @@
 -- The candidate prediction among the public calls: the numbers of its checks, what it did with any input, and what it made of an accepted one.
 use Rattle.std.specs.Prelude.{◌≡◌, true, false, List, [], ◌∷◌, ℕ, ◌≤◌, Float}
 use Rattle.refusal.specs.Table.{refused}
-use Rattle.refusal.specs.Outcome.{Outcome}
+use Rattle.refusal.specs.Outcome.{Outcome as Refusal}
 use Rattle.road.specs.declared.Road.{Road}
 use Rattle.candidate.specs.declared.candidates.CandidateResult.{CandidateResult}
 use Rattle.candidate.specs.Answers.{CandidateAnswer}
@@ -15,7 +15,7 @@ abbrev pub candidate_numbers : List ℕ
 candidate_numbers = 1 ∷ 2 ∷ 3 ∷ 4 ∷ 13 ∷ 14 ∷ []
 
 -- the place of 14: "1, 2 or 3, lowest first"
-abbrev pub EstimatePlace : Road → Float → Float → Float → Outcome → Type 0
+abbrev pub EstimatePlace : Road → Float → Float → Float → Refusal → Type 0
 EstimatePlace r left own right f =
     f.number ≡ 14
     → (1 ≤ f.place)
@@ -25,7 +25,7 @@ EstimatePlace r left own right f =
     × (f.place ≡ 3 → (bad_estimate r.jam left ≡ false) × (bad_estimate r.jam own ≡ false) × (bad_estimate r.jam right ≡ true))
 
 -- what came of it: f the refusal that came back
-abbrev pub candidate_outcome : Road → ℕ → Float → Float → Float → Outcome → Type 0 → Type 0 → Outcome
+abbrev pub candidate_outcome : Road → ℕ → Float → Float → Float → Refusal → Type 0 → Type 0 → Outcome
 candidate_outcome r mode left own right f Kept Made = record {
   checks = candidate_checks r mode left own right;
   numbers = candidate_numbers;

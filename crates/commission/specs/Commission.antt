@@ -17,7 +17,7 @@ use Rattle.scheme.specs.Exact.{exact_step, exact_run}
 use Rattle.scheme.specs.Settling.{still, after}
 use Rattle.scheme.specs.declared.many_steps.Totals.{Totals}
 use Rattle.forecast.specs.declared.forecasting.Record.{Record}
-use Rattle.refusal.specs.Answer as Forecast
+use Rattle.refusal.specs.Answer.{Done}
 use Rattle.forecast.specs.Forecast.{forecast_answer, forecast_cells}
 use Rattle.forecast.specs.Settle.{PairByFaces}
 use Rattle.forecast.specs.Chain.{after_call}
@@ -32,7 +32,6 @@ use Rattle.rows.specs.SevenModes.{SevenModes}
 use Rattle.rows.specs.Coefficients.{left_coefficient, own_coefficient, right_coefficient, constant_of}
 use Rattle.modes.specs.Answers.{FitAnswer}
 use Rattle.modes.specs.Fit.{all_letters_hold, Fits, AnswersFit}
-use Rattle.refusal.specs.Answer.{Done}
 use Rattle.modes.specs.Answers.{StateReading}
 use Rattle.modes.specs.Reading.{count_of, queued_of, ReadChecked, Reads}
 use Rattle.counting.specs.LegalWordsCounted.{legal_words, StandsAt}
@@ -230,7 +229,7 @@ pub record Demand2 : Type 0 where
   -- forecast answers Done, and an unsettled state equals it as well
   pub still_means : (r : Road) (caps : List ℕ) (up down : ℕ) (xs : List ℕ) → (still r caps up down xs ≡ true) ↔ (round_step r caps up down xs ≡ xs)
   pub full : EachSettling (λ x. x.next ≡ forecast_cells x.road x.caps x.cells (every_step x x.up) (every_step x x.down) x.horizon no_totals x.cells)
-  pub full_done : EachSettling (λ x. (d : Record) × (forecast_answer x.road x.caps x.cells (every_step x x.up) (every_step x x.down) x.horizon no_totals (length x.cells) ≡ Forecast.Done d))
+  pub full_done : EachSettling (λ x. (d : Record) × (forecast_answer x.road x.caps x.cells (every_step x x.up) (every_step x x.down) x.horizon no_totals (length x.cells) ≡ Done d))
   -- for C a flag says yes by 1 and no by 0: `settled`, and `holds` of a fit test
   pub flag_yes : flag_of true ≡ 1
   pub flag_no : flag_of false ≡ 0

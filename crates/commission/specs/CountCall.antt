@@ -1,7 +1,7 @@
 -- The word count among the public calls: the numbers of its checks, what it did with any input, and what it made of an accepted one.
 use Rattle.std.specs.Prelude.{◌≡◌, List, [], ◌∷◌, ℕ, ◌≤◌}
 use Rattle.refusal.specs.Table.{refused}
-use Rattle.refusal.specs.Outcome.{Outcome}
+use Rattle.refusal.specs.Outcome.{Outcome as Refusal}
 use Rattle.road.specs.Ceilings.{count_ceiling}
 use Rattle.counting.specs.declared.counting.WordCount.{WordCount}
 use Rattle.counting.specs.Answers.{CountAnswer}
@@ -16,7 +16,7 @@ abbrev pub count_numbers : List ℕ
 count_numbers = 15 ∷ []
 
 -- what came of it: f the refusal that came back
-abbrev pub count_outcome : ℕ → Outcome → Type 0 → Type 0 → Outcome
+abbrev pub count_outcome : ℕ → Refusal → Type 0 → Type 0 → Outcome
 count_outcome n f Kept Made = record {
   checks = count_checks n;
   numbers = count_numbers;

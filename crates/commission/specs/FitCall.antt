@@ -1,7 +1,7 @@
 -- The fit test among the public calls: the numbers of its checks, what it did with any input, and what it made of an accepted one.
 use Rattle.std.specs.Prelude.{◌≡◌, Bool, List, [], ◌∷◌, ℕ}
 use Rattle.refusal.specs.Table.{refused}
-use Rattle.refusal.specs.Outcome.{Outcome}
+use Rattle.refusal.specs.Outcome.{Outcome as Refusal}
 use Rattle.road.specs.declared.Road.{Road}
 use Rattle.modes.specs.Answers.{FitResult}
 use Rattle.modes.specs.Answers.{FitAnswer}
@@ -18,7 +18,7 @@ abbrev pub fit_numbers : List ℕ
 fit_numbers = 1 ∷ 2 ∷ 3 ∷ 4 ∷ 5 ∷ 9 ∷ 10 ∷ 11 ∷ 12 ∷ []
 
 -- what came of it: f the refusal that came back
-abbrev pub fit_outcome : Road → List ℕ → ℕ → ℕ → List ℕ → Outcome → Type 0 → Type 0 → Outcome
+abbrev pub fit_outcome : Road → List ℕ → ℕ → ℕ → List ℕ → Refusal → Type 0 → Type 0 → Outcome
 fit_outcome r cells up down word f Kept Made = record {
   checks = fit_checks r cells up down word;
   numbers = fit_numbers;

@@ -1,7 +1,7 @@
 -- The forecast among the public calls: the numbers of its checks, what it did with any input, and what it made of an accepted one.
 use Rattle.std.specs.Prelude.{◌≡◌, List, [], ◌∷◌, ℕ, length}
 use Rattle.refusal.specs.Table.{refused}
-use Rattle.refusal.specs.Outcome.{Outcome}
+use Rattle.refusal.specs.Outcome.{Outcome as Refusal}
 use Rattle.road.specs.declared.Road.{Road}
 use Rattle.scheme.specs.declared.many_steps.Totals.{Totals}
 use Rattle.forecast.specs.declared.forecasting.Record.{Record}
@@ -18,7 +18,7 @@ abbrev pub forecast_numbers : List ℕ
 forecast_numbers = 1 ∷ 2 ∷ 3 ∷ 4 ∷ 5 ∷ 6 ∷ 7 ∷ 8 ∷ 20 ∷ 9 ∷ 10 ∷ 11 ∷ 19 ∷ []
 
 -- what came of it: f the refusal that came back
-abbrev pub forecast_outcome : Road → List ℕ → List ℕ → List ℕ → List ℕ → ℕ → Totals → ℕ → Outcome → Type 0 → Type 0 → Outcome
+abbrev pub forecast_outcome : Road → List ℕ → List ℕ → List ℕ → List ℕ → ℕ → Totals → ℕ → Refusal → Type 0 → Type 0 → Outcome
 forecast_outcome r caps cells ups downs t totals out f Kept Made = record {
   checks = forecast_checks r caps cells ups downs t totals out;
   numbers = forecast_numbers;

@@ -1,7 +1,7 @@
 -- The ranking of the next modes among the public calls: the numbers of its checks, what it did with any input, and what it made of an accepted one.
 use Rattle.std.specs.Prelude.{◌≡◌, List, ℕ, ℤ, length}
 use Rattle.refusal.specs.Table.{refused}
-use Rattle.refusal.specs.Outcome.{Outcome}
+use Rattle.refusal.specs.Outcome.{Outcome as Refusal}
 use Rattle.road.specs.declared.Road.{Road}
 use Rattle.nearest.specs.Answers.{NearestAnswer}
 use Rattle.refusal.specs.Answer.{Done}
@@ -16,7 +16,7 @@ abbrev pub nearest_numbers : List ℕ
 nearest_numbers = read_numbers
 
 -- what came of it: f the refusal that came back
-abbrev pub nearest_outcome : Road → List ℕ → ℕ → ℕ → ℕ → ℕ → Outcome → Type 0 → Type 0 → Outcome
+abbrev pub nearest_outcome : Road → List ℕ → ℕ → ℕ → ℕ → ℕ → Refusal → Type 0 → Type 0 → Outcome
 nearest_outcome r cells up down numbers changes f Kept Made = record {
   checks = nearest_checks r cells up down numbers changes;
   numbers = nearest_numbers;

@@ -1,7 +1,7 @@
 -- The row prediction among the public calls: the numbers of its checks, what it did with any input, and what it made of an accepted one.
 use Rattle.std.specs.Prelude.{◌≡◌, List, [], ◌∷◌, ℕ, ℤ, length}
 use Rattle.refusal.specs.Table.{refused}
-use Rattle.refusal.specs.Outcome.{Outcome}
+use Rattle.refusal.specs.Outcome.{Outcome as Refusal}
 use Rattle.road.specs.declared.Road.{Road}
 use Rattle.rows.specs.Answers.{PredictAnswer}
 use Rattle.refusal.specs.Answer.{Done}
@@ -16,7 +16,7 @@ abbrev pub predict_numbers : List ℕ
 predict_numbers = 1 ∷ 2 ∷ 3 ∷ 4 ∷ 5 ∷ 8 ∷ 9 ∷ 10 ∷ 11 ∷ 12 ∷ []
 
 -- what came of it: f the refusal that came back
-abbrev pub predict_outcome : Road → List ℕ → ℕ → ℕ → List ℕ → ℕ → Outcome → Type 0 → Type 0 → Outcome
+abbrev pub predict_outcome : Road → List ℕ → ℕ → ℕ → List ℕ → ℕ → Refusal → Type 0 → Type 0 → Outcome
 predict_outcome r cells up down word out f Kept Made = record {
   checks = predict_checks r cells up down word out;
   numbers = predict_numbers;

@@ -1,7 +1,7 @@
 -- The reading among the public calls: the numbers of its checks, what it did with any input, and what it made of an accepted one.
 use Rattle.std.specs.Prelude.{◌≡◌, List, [], ◌∷◌, ℕ, length}
 use Rattle.refusal.specs.Table.{refused}
-use Rattle.refusal.specs.Outcome.{Outcome}
+use Rattle.refusal.specs.Outcome.{Outcome as Refusal}
 use Rattle.road.specs.declared.Road.{Road}
 use Rattle.refusal.specs.Answer.{Done}
 use Rattle.modes.specs.Answers.{StateReading}
@@ -16,7 +16,7 @@ abbrev pub read_numbers : List ℕ
 read_numbers = 1 ∷ 2 ∷ 3 ∷ 4 ∷ 5 ∷ 8 ∷ 9 ∷ 10 ∷ 11 ∷ []
 
 -- what came of it: f the refusal that came back
-abbrev pub read_outcome : Road → List ℕ → ℕ → ℕ → ℕ → ℕ → Outcome → Type 0 → Type 0 → Outcome
+abbrev pub read_outcome : Road → List ℕ → ℕ → ℕ → ℕ → ℕ → Refusal → Type 0 → Type 0 → Outcome
 read_outcome r cells up down letters modes f Kept Made = record {
   checks = read_checks r cells up down letters modes;
   numbers = read_numbers;

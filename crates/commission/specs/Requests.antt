@@ -12,20 +12,17 @@ use Rattle.scheme.specs.Exact.{exact_step}
 use Rattle.scheme.specs.Word.{word_of}
 use Rattle.scheme.specs.declared.many_steps.Totals.{Totals}
 use Rattle.forecast.specs.Answers.{ForecastAnswer}
-use Rattle.refusal.specs.Answer as Forecast
+use Rattle.refusal.specs.Answer.{Done, Refused}
 use Rattle.forecast.specs.Forecast.{forecast_answer, forecast_cells}
 use Rattle.forecast.specs.Answers.{SettleAnswer}
-use Rattle.refusal.specs.Answer as Settle
 use Rattle.forecast.specs.Settle.{settle_answer, settle_output, full_cells}
 use Rattle.forecast.specs.Chain.{Call, Site, after_all}
 use Rattle.modes.specs.Reading.{read_answer}
-use Rattle.refusal.specs.Answer as Read
 use Rattle.modes.specs.Answers.{StateReading}
 use Rattle.nearest.specs.Nearest.{Entry, ranking}
 use Rattle.station.specs.Station.{whole, estimate_of, station_answer}
 use Rattle.station.specs.declared.stations.StationReading.{StationReading}
 use Rattle.station.specs.declared.stations.StationReading.TheVariants.{Density, FlowAndSpeed, Speed}
-use Rattle.refusal.specs.Answer.{Done, Refused}
 use Rattle.rows.specs.Rows.{row_numerators}
 use Rattle.commission.specs.Starred.{road_a, totals, none, three}
 
@@ -59,7 +56,7 @@ abbrev pub one_step_on : Totals → ForecastAnswer
 one_step_on so_far = forecast_answer road_a (open_caps 1) (101 ∷ []) (0 ∷ []) (0 ∷ []) 1 so_far 1
 
 abbrev pub made : Totals → Totals → ForecastAnswer
-made own total = Forecast.Done (record { own = own; totals = total })
+made own total = Done (record { own = own; totals = total })
 
 -- one step of a chain on road A, between two ends
 abbrev pub step : ℕ → ℕ → Call
@@ -77,7 +74,7 @@ abbrev pub reading : ℕ → List ℕ → ℕ → StateReading
 reading up cells down = read_answer road_a cells up down (length cells + 1) (length cells)
 
 abbrev pub counted : List ℕ → ℕ → StateReading
-counted modes queued = record { answer = Read.Done tt; counts = record { modes = modes; queued = queued } }
+counted modes queued = record { answer = Done tt; counts = record { modes = modes; queued = queued } }
 
 -- E7: one step of cells of road A between two ends under caps, from totals of 0: its cells; its own entered and left; the exact step; and the rows of the state's own word
 abbrev pub capped : List ℕ → ℕ → List ℕ → ℕ → List ℕ
@@ -103,7 +100,7 @@ abbrev pub cells_within : ℕ → List ℕ
 cells_within t = settle_output unit_road (open_caps 2) one_unit 0 0 t one_unit
 
 abbrev pub reported : Bool → ℕ → SettleAnswer
-reported settled steps = Settle.Done (record { settled = settled; steps = steps })
+reported settled steps = Done (record { settled = settled; steps = steps })
 
 -- E9: of road A one empty cell between so many empty ends a side, over T steps; and a settling run of one full cell within T steps, into an output of so many
 abbrev pub empty_over : ℕ → ℕ → ForecastAnswer
@@ -132,7 +129,7 @@ pub record Requested : Type 0 where
   pub totals_increased : one_step_on (totals 7 5) ≡ made (totals 0 81) (totals 7 86)
   pub totals_cell : forecast_cells road_a (open_caps 1) (101 ∷ []) (0 ∷ []) (0 ∷ []) 1 (totals 7 5) (0 ∷ []) ≡ 20 ∷ []
   pub totals_largest : one_step_on (totals 7 18446744073709551534) ≡ made (totals 0 81) (totals 7 18446744073709551615)
-  pub totals_past : one_step_on (totals 7 18446744073709551535) ≡ Forecast.Refused (refused 19 0)
+  pub totals_past : one_step_on (totals 7 18446744073709551535) ≡ Refused (refused 19 0)
   pub totals_chain : after_all (site three none) (step 100 0 ∷ step 100 0 ∷ step 1001 0 ∷ step 120 0 ∷ step 150 900 ∷ []) ≡ site (145 ∷ 336 ∷ 545 ∷ []) (totals 376 500)
   -- E5, what the one list then holds: all faces are worked from the old densities. With an inflow from the new left cell all would be 0
   pub alternate : round_step unit_road (open_caps 4) 0 0 (1 ∷ 0 ∷ 1 ∷ 0 ∷ []) ≡ 0 ∷ 1 ∷ 0 ∷ 1 ∷ []
@@ -179,12 +176,12 @@ pub record Requested : Type 0 where
   pub still_9_full : full_cells unit_road (open_caps 2) one_unit 0 0 9 ≡ 0 ∷ 0 ∷ []
   -- E9, the longest run in use: "1,440 is accepted, 1,441 gives 6", which stands after 5 and before 7 and 8; Level 1's 4,096 gives it too
   pub steps_1440 : empty_over 1440 1440 ≡ made none none
-  pub steps_1440_ends_1439 : empty_over 1440 1439 ≡ Forecast.Refused (refused 7 0)
-  pub steps_1441 : empty_over 1441 1441 ≡ Forecast.Refused (refused 6 0)
-  pub steps_1441_ends_1440 : empty_over 1441 1440 ≡ Forecast.Refused (refused 6 0)
-  pub steps_1441_no_cells : forecast_answer road_a (open_caps 0) [] (replicate 1441 0) (replicate 1441 0) 1441 none 0 ≡ Forecast.Refused (refused 5 0)
-  pub steps_4096 : empty_over 4096 4096 ≡ Forecast.Refused (refused 6 0)
+  pub steps_1440_ends_1439 : empty_over 1440 1439 ≡ Refused (refused 7 0)
+  pub steps_1441 : empty_over 1441 1441 ≡ Refused (refused 6 0)
+  pub steps_1441_ends_1440 : empty_over 1441 1440 ≡ Refused (refused 6 0)
+  pub steps_1441_no_cells : forecast_answer road_a (open_caps 0) [] (replicate 1441 0) (replicate 1441 0) 1441 none 0 ≡ Refused (refused 5 0)
+  pub steps_4096 : empty_over 4096 4096 ≡ Refused (refused 6 0)
   -- "for settling runs too"
   pub settling_1440 : full_within 1440 1 ≡ reported true 9
-  pub settling_1441 : full_within 1441 1 ≡ Settle.Refused (refused 6 0)
-  pub settling_1441_output_2 : full_within 1441 2 ≡ Settle.Refused (refused 6 0)
+  pub settling_1441 : full_within 1441 1 ≡ Refused (refused 6 0)
+  pub settling_1441_output_2 : full_within 1441 2 ≡ Refused (refused 6 0)

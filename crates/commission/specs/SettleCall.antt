@@ -1,7 +1,7 @@
 -- The settling run among the public calls: the numbers of its checks, what it did with any input, and what it made of an accepted one.
 use Rattle.std.specs.Prelude.{◌≡◌, Bool, List, [], ◌∷◌, ℕ, length}
 use Rattle.refusal.specs.Table.{refused}
-use Rattle.refusal.specs.Outcome.{Outcome}
+use Rattle.refusal.specs.Outcome.{Outcome as Refusal}
 use Rattle.road.specs.declared.Road.{Road}
 use Rattle.scheme.specs.declared.settling.Settled.{Settled}
 use Rattle.forecast.specs.Answers.{SettleAnswer}
@@ -18,7 +18,7 @@ abbrev pub settle_numbers : List ℕ
 settle_numbers = 1 ∷ 2 ∷ 3 ∷ 4 ∷ 5 ∷ 6 ∷ 8 ∷ 20 ∷ 9 ∷ 10 ∷ 11 ∷ []
 
 -- what came of it: f the refusal that came back
-abbrev pub settle_outcome : Road → List ℕ → List ℕ → ℕ → ℕ → ℕ → ℕ → Outcome → Type 0 → Type 0 → Outcome
+abbrev pub settle_outcome : Road → List ℕ → List ℕ → ℕ → ℕ → ℕ → ℕ → Refusal → Type 0 → Type 0 → Outcome
 settle_outcome r caps cells up down t out f Kept Made = record {
   checks = settle_checks r caps cells up down t out;
   numbers = settle_numbers;

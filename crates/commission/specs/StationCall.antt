@@ -1,7 +1,7 @@
 -- The station reading among the public calls: the numbers of its checks, what it did with any input, what it returned, and what it made of an accepted one.
 use Rattle.std.specs.Prelude.{◌≡◌, List, [], ◌∷◌, ℕ, Float}
 use Rattle.refusal.specs.Table.{refused}
-use Rattle.refusal.specs.Outcome.{Outcome}
+use Rattle.refusal.specs.Outcome.{Outcome as Refusal}
 use Rattle.road.specs.declared.Road.{Road}
 use Rattle.station.specs.declared.stations.StationReading.{StationReading}
 use Rattle.station.specs.declared.stations.Estimate.{Estimate}
@@ -17,7 +17,7 @@ abbrev pub station_numbers : List ℕ
 station_numbers = 1 ∷ 2 ∷ 3 ∷ 4 ∷ 16 ∷ 17 ∷ 18 ∷ []
 
 -- what came of it: f the refusal that came back
-abbrev pub station_outcome : Road → StationReading → Outcome → Type 0 → Type 0 → Outcome
+abbrev pub station_outcome : Road → StationReading → Refusal → Type 0 → Type 0 → Outcome
 station_outcome r x f Kept Made = record {
   checks = station_checks r x;
   numbers = station_numbers;
