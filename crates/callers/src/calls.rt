@@ -2,6 +2,7 @@
 ghost use Rattle.refusal.specs.Answer.{answer_of};
 ghost use Rattle.forecast.specs.Forecast.{Forecasts};
 ghost use Rattle.forecast.specs.Settle.{Settles};
+ghost use Rattle.modes.specs.Answers.{reading_of, fit_of};
 ghost use Rattle.modes.specs.Reading.{Reads};
 ghost use Rattle.modes.specs.Fit.{Fits};
 ghost use Rattle.rows.specs.Prediction.{Predicts};
@@ -61,14 +62,20 @@ pub fn read(
     letters: &mut [u8],
     modes: &mut [u8],
 ) -> Result<Counts, Refusal>
-    ensures { Reads road cells.now up down letters.old letters.new modes.old modes.new (answer_of result) }
+    ensures { Reads road cells.now up down letters.old letters.new modes.old modes.new (reading_of result) }
 {
     modes::read(road, cells, up, down, letters, modes)
 }
 
 // The fit test.
-pub fn fit(road: Road, cells: &[u32], up: u32, down: u32, word: &[u8]) -> Result<Option<u32>, Refusal>
-    ensures { Fits road cells.now up down word.now (answer_of result) }
+pub fn fit(
+    road: Road,
+    cells: &[u32],
+    up: u32,
+    down: u32,
+    word: &[u8],
+) -> Result<Option<u32>, Refusal>
+    ensures { Fits road cells.now up down word.now (fit_of result) }
 {
     modes::fit(road, cells, up, down, word)
 }
@@ -88,7 +95,13 @@ pub fn predict(
 }
 
 // The candidate prediction.
-pub fn candidate(road: Road, mode: u8, left: f64, own: f64, right: f64) -> Result<CandidateResult, Refusal>
+pub fn candidate(
+    road: Road,
+    mode: u8,
+    left: f64,
+    own: f64,
+    right: f64,
+) -> Result<CandidateResult, Refusal>
     ensures { Candidates road mode left own right (answer_of result) }
 {
     candidate::candidate(road, mode, left, own, right)
