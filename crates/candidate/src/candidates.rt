@@ -9,7 +9,8 @@ use refusal::Refusal;
 use road::{AcceptedRoad, Road};
 use rows::WholeRow;
 
-// A mode's row for a road: three coefficients and a constant, each exactly the whole number.
+// A mode's row for a road: three coefficients and a constant, each exactly the whole number. One generic row with `WholeRow`
+// would be no plainer: the two share no function, since a sum of floats is rounded at each step and one of integers bounded.
 #[derive(Clone, Copy)]
 pub struct CandidateRow {
     pub left: f64,
