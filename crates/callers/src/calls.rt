@@ -1,4 +1,5 @@
 // A caller of each public call of Rattle: it asks nothing, only calls, and promises the call's record.
+ghost use Rattle.refusal.specs.Answer.{answer_of};
 ghost use Rattle.forecast.specs.Forecast.{Forecasts};
 ghost use Rattle.forecast.specs.Settle.{Settles};
 ghost use Rattle.modes.specs.Reading.{Reads};
@@ -9,15 +10,14 @@ ghost use Rattle.counting.specs.Count.{CountsWords};
 ghost use Rattle.station.specs.Station.{Stations};
 ghost use Rattle.nearest.specs.Nearest.{Nearests};
 
-use candidate::CandidateAnswer;
-use counting::CountAnswer;
-use forecast::{ForecastAnswer, SettleAnswer};
-use modes::{FitAnswer, StateReading};
-use nearest::NearestAnswer;
+use candidate::CandidateResult;
+use counting::WordCount;
+use forecast::Record;
+use modes::Counts;
+use refusal::Refusal;
 use road::Road;
-use rows::PredictAnswer;
-use scheme::Totals;
-use station::{StationAnswer, StationReading};
+use scheme::{Settled, Totals};
+use station::{Estimate, StationReading};
 
 // The forecast.
 pub fn forecast(
@@ -29,8 +29,8 @@ pub fn forecast(
     caps: &[u32],
     totals: Totals,
     out: &mut [u32],
-) -> ForecastAnswer
-    ensures { Forecasts road caps.now cells.now upstream.now downstream.now horizon totals out.old out.new result }
+) -> Result<Record, Refusal>
+    ensures { Forecasts road caps.now cells.now upstream.now downstream.now horizon totals out.old out.new (answer_of result) }
 {
     forecast::forecast(
         road, cells, upstream, downstream, horizon, caps, totals, out,
@@ -46,8 +46,8 @@ pub fn settle(
     horizon: u32,
     caps: &[u32],
     out: &mut [u32],
-) -> SettleAnswer
-    ensures { Settles road caps.now cells.now up down horizon out.old out.new result }
+) -> Result<Settled, Refusal>
+    ensures { Settles road caps.now cells.now up down horizon out.old out.new (answer_of result) }
 {
     forecast::settle(road, cells, up, down, horizon, caps, out)
 }
@@ -60,15 +60,15 @@ pub fn read(
     down: u32,
     letters: &mut [u8],
     modes: &mut [u8],
-) -> StateReading
-    ensures { Reads road cells.now up down letters.old letters.new modes.old modes.new result }
+) -> Result<Counts, Refusal>
+    ensures { Reads road cells.now up down letters.old letters.new modes.old modes.new (answer_of result) }
 {
     modes::read(road, cells, up, down, letters, modes)
 }
 
 // The fit test.
-pub fn fit(road: Road, cells: &[u32], up: u32, down: u32, word: &[u8]) -> FitAnswer
-    ensures { Fits road cells.now up down word.now result }
+pub fn fit(road: Road, cells: &[u32], up: u32, down: u32, word: &[u8]) -> Result<Option<u32>, Refusal>
+    ensures { Fits road cells.now up down word.now (answer_of result) }
 {
     modes::fit(road, cells, up, down, word)
 }
@@ -81,29 +81,29 @@ pub fn predict(
     down: u32,
     word: &[u8],
     out: &mut [i64],
-) -> PredictAnswer
-    ensures { Predicts road cells.now up down word.now out.old out.new result }
+) -> Result<(), Refusal>
+    ensures { Predicts road cells.now up down word.now out.old out.new (answer_of result) }
 {
     rows::predict(road, cells, up, down, word, out)
 }
 
 // The candidate prediction.
-pub fn candidate(road: Road, mode: u8, left: f64, own: f64, right: f64) -> CandidateAnswer
-    ensures { Candidates road mode left own right result }
+pub fn candidate(road: Road, mode: u8, left: f64, own: f64, right: f64) -> Result<CandidateResult, Refusal>
+    ensures { Candidates road mode left own right (answer_of result) }
 {
     candidate::candidate(road, mode, left, own, right)
 }
 
 // The word count.
-pub fn count(cells: u32) -> CountAnswer
-    ensures { CountsWords cells result }
+pub fn count(cells: u32) -> Result<WordCount, Refusal>
+    ensures { CountsWords cells (answer_of result) }
 {
     counting::count(cells)
 }
 
 // The station reading.
-pub fn station(road: Road, reading: StationReading) -> StationAnswer
-    ensures { Stations road reading result }
+pub fn station(road: Road, reading: StationReading) -> Result<Estimate, Refusal>
+    ensures { Stations road reading (answer_of result) }
 {
     station::station(road, reading)
 }
@@ -116,8 +116,8 @@ pub fn nearest(
     down: u32,
     numbers: &mut [u32],
     changes: &mut [i32],
-) -> NearestAnswer
-    ensures { Nearests road cells.now up down numbers.old numbers.new changes.old changes.new result }
+) -> Result<(), Refusal>
+    ensures { Nearests road cells.now up down numbers.old numbers.new changes.old changes.new (answer_of result) }
 {
     nearest::nearest(road, cells, up, down, numbers, changes)
 }

@@ -4,7 +4,7 @@ use mathlib.Core.Logic.{inr}
 use Prim.Native.Nat.{◌+◌}
 use lib.ListN.{length}
 use Rattle.modes.specs.Judging.{read_refusal}
-use Rattle.modes.specs.declared.reading.StateReading.{StateReading}
+use Rattle.modes.specs.Answers.{StateReading}
 use Rattle.modes.specs.Reading.{read_answer, read_letters, read_modes, ReadState}
 use Rattle.commission.specs.Outcome.{Outcome}
 use Rattle.commission.specs.ReadCall.{CalledRead, read, welgadou_read, AcceptedReading, ReadingMade}

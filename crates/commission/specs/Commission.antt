@@ -33,7 +33,7 @@ use Rattle.rows.specs.Coefficients.{left_coefficient, own_coefficient, right_coe
 use Rattle.modes.specs.Answers.{FitAnswer}
 use Rattle.modes.specs.Fit.{all_letters_hold, Fits, AnswersFit}
 use Rattle.refusal.specs.Answer.{Done}
-use Rattle.modes.specs.declared.reading.StateReading.{StateReading}
+use Rattle.modes.specs.Answers.{StateReading}
 use Rattle.modes.specs.Reading.{count_of, queued_of, ReadChecked, Reads}
 use Rattle.counting.specs.LegalWordsCounted.{legal_words, StandsAt}
 use Rattle.candidate.specs.Candidate.{row_for, candidate_numerator}
@@ -175,7 +175,7 @@ Occurs r word =
     × ReadChecked r (cells_of r word) (upstream_of r word) (downstream_of r word) (length word) (length (cells_of r word))
     × ((letters next-letters modes next_modes : List ℕ) (a : StateReading)
     → Reads r (cells_of r word) (upstream_of r word) (downstream_of r word) letters next-letters modes next_modes a
-    → length letters ≡ length word → length modes ≡ length (cells_of r word) → (a.answer ≡ Done) × (next-letters ≡ word))
+    → length letters ≡ length word → length modes ≡ length (cells_of r word) → (a.answer ≡ Done tt) × (next-letters ≡ word))
 
 pub record Demand2 : Type 0 where
   -- "Flows, letters, modes and rows are those of the published triangular Godunov tables": the flow of a face by its letter

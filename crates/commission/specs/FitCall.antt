@@ -3,7 +3,7 @@ use Rattle.std.specs.Prelude.{◌≡◌, Bool, List, [], ◌∷◌, ℕ}
 use Rattle.refusal.specs.Table.{refused}
 use Rattle.refusal.specs.Outcome.{Outcome}
 use Rattle.road.specs.declared.Road.{Road}
-use Rattle.modes.specs.declared.fitting.FitResult.{FitResult}
+use Rattle.modes.specs.Answers.{FitResult}
 use Rattle.modes.specs.Answers.{FitAnswer}
 use Rattle.refusal.specs.Answer.{Done}
 use Rattle.modes.specs.Judging.{fit_checks}

@@ -32,7 +32,7 @@ pub data CalledNearest : Outcome → Type 1 where
       → Nearests r cells up down numbers next-numbers changes next-changes a
       → CalledNearest (nearest_outcome r cells up down (length numbers) (length changes) (refused (nearest_number a) (nearest_place a))
       ((next-numbers ≡ numbers) × (next-changes ≡ changes))
-      (a ≡ Done))
+      (a ≡ Done tt))
   welgadou_nearest : {r : Road} {cells : List ℕ} {up down : ℕ} {numbers numbers-next : List ℕ} {changes changes-next : List ℤ} {place number : ℕ}
       → NearestRanked r cells up down numbers numbers-next changes changes-next place number
       → CalledNearest (nearest_outcome r cells up down (length numbers) (length changes) (refused number place)
@@ -50,7 +50,7 @@ pub record AcceptedRanking : Type 0 where
 
 pub data RankingMade : AcceptedRanking → Type 0 where
   nearest : {r : Road} {cells : List ℕ} {up down : ℕ} {numbers next-numbers : List ℕ} {changes next-changes : List ℤ} {a : NearestAnswer}
-      → Nearests r cells up down numbers next-numbers changes next-changes a → a ≡ Done
+      → Nearests r cells up down numbers next-numbers changes next-changes a → a ≡ Done tt
       → RankingMade (record { road = r; cells = cells; up = up; down = down; numbers = next-numbers; changes = next-changes })
   welgadou_nearest : {r : Road} {cells : List ℕ} {up down : ℕ} {numbers numbers-next : List ℕ} {changes changes-next : List ℤ} {place number : ℕ}
       → NearestRanked r cells up down numbers numbers-next changes changes-next place number → number ≡ 0

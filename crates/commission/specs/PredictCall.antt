@@ -30,7 +30,7 @@ predict_outcome r cells up down word out f Kept Made = record {
 pub data CalledPredict : Outcome → Type 1 where
   predict : {r : Road} {cells : List ℕ} {up down : ℕ} {word : List ℕ} {out next : List ℤ} {a : PredictAnswer}
       → Predicts r cells up down word out next a
-      → CalledPredict (predict_outcome r cells up down word (length out) (refused (predict_number a) (predict_place a)) (next ≡ out) (a ≡ Done))
+      → CalledPredict (predict_outcome r cells up down word (length out) (refused (predict_number a) (predict_place a)) (next ≡ out) (a ≡ Done tt))
   welgadou_rows : {r : Road} {cells : List ℕ} {up down : ℕ} {word : List ℕ} {out next : List ℤ} {place number : ℕ}
       → RowsPredicted r cells up down word out next place number
       → CalledPredict (predict_outcome r cells up down word (length out) (refused number place) (next ≡ out) (Unit {0}))
@@ -46,7 +46,7 @@ pub record AcceptedRows : Type 0 where
 
 pub data RowsMade : AcceptedRows → Type 0 where
   predict : {r : Road} {cells : List ℕ} {up down : ℕ} {word : List ℕ} {out next : List ℤ} {a : PredictAnswer}
-      → Predicts r cells up down word out next a → a ≡ Done
+      → Predicts r cells up down word out next a → a ≡ Done tt
       → RowsMade (record { road = r; cells = cells; up = up; down = down; word = word; rows = next })
   welgadou_rows : {r : Road} {cells : List ℕ} {up down : ℕ} {word : List ℕ} {out next : List ℤ} {place number : ℕ}
       → RowsPredicted r cells up down word out next place number → number ≡ 0

@@ -4,7 +4,7 @@ use Rattle.refusal.specs.Table.{refused}
 use Rattle.refusal.specs.Outcome.{Outcome}
 use Rattle.road.specs.declared.Road.{Road}
 use Rattle.refusal.specs.Answer.{Done}
-use Rattle.modes.specs.declared.reading.StateReading.{StateReading}
+use Rattle.modes.specs.Answers.{StateReading}
 use Rattle.modes.specs.Judging.{read_checks}
 use Rattle.modes.specs.Reading.{read_number, read_place, ReadChecked, Reads}
 use Rattle.welgadou.specs.Level2.{StateRead}
@@ -32,7 +32,7 @@ pub data CalledRead : Outcome → Type 1 where
       → Reads r cells up down letters next-letters modes next_modes a
       → CalledRead (read_outcome r cells up down (length letters) (length modes) (refused (read_number a.answer) (read_place a.answer))
       ((next-letters ≡ letters) × (next_modes ≡ modes))
-      (a.answer ≡ Done))
+      (a.answer ≡ Done tt))
   welgadou_read : {r : Road} {cells : List ℕ} {up down : ℕ} {letters letters-next modes modes-next counts counts-next : List ℕ} {queued queued-next place number : ℕ}
       → StateRead r cells up down letters letters-next modes modes-next counts counts-next queued queued-next place number
       → CalledRead (read_outcome r cells up down (length letters) (length modes) (refused number place)
@@ -52,7 +52,7 @@ pub record AcceptedReading : Type 0 where
 
 pub data ReadingMade : AcceptedReading → Type 0 where
   read : {r : Road} {cells : List ℕ} {up down : ℕ} {letters next-letters modes next_modes : List ℕ} {a : StateReading}
-      → Reads r cells up down letters next-letters modes next_modes a → a.answer ≡ Done
+      → Reads r cells up down letters next-letters modes next_modes a → a.answer ≡ Done tt
       → ReadingMade (record {
         road = r;
         cells = cells;

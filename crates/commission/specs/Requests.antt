@@ -20,7 +20,7 @@ use Rattle.forecast.specs.Settle.{settle_answer, settle_output, full_cells}
 use Rattle.forecast.specs.Chain.{Call, Site, after_all}
 use Rattle.modes.specs.Reading.{read_answer}
 use Rattle.refusal.specs.Answer as Read
-use Rattle.modes.specs.declared.reading.StateReading.{StateReading}
+use Rattle.modes.specs.Answers.{StateReading}
 use Rattle.nearest.specs.Nearest.{Entry, ranking}
 use Rattle.station.specs.Station.{whole, estimate_of, station_answer}
 use Rattle.station.specs.declared.stations.StationReading.{StationReading}
@@ -77,7 +77,7 @@ abbrev pub reading : ℕ → List ℕ → ℕ → StateReading
 reading up cells down = read_answer road_a cells up down (length cells + 1) (length cells)
 
 abbrev pub counted : List ℕ → ℕ → StateReading
-counted modes queued = record { answer = Read.Done; counts = record { modes = modes; queued = queued } }
+counted modes queued = record { answer = Read.Done tt; counts = record { modes = modes; queued = queued } }
 
 -- E7: one step of cells of road A between two ends under caps, from totals of 0: its cells; its own entered and left; the exact step; and the rows of the state's own word
 abbrev pub capped : List ℕ → ℕ → List ℕ → ℕ → List ℕ

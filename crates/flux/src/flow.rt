@@ -24,7 +24,7 @@ impl Pace {
             road,
             send: Factor::of(r.free, r.divisor),
             receive: Factor::of(r.wave, r.divisor),
-            capacity: face::units(road, r.free * r.critical),
+            capacity: face::units(r, r.free * r.critical),
         }
     }
 

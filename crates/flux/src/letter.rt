@@ -14,7 +14,7 @@ pub enum Letter {
 }
 
 impl Letter {
-    // The letter's code in a list of letters.
+    // Internal: the letter's code in a list of letters.
     pub const fn code(self) -> u8
         ensures { result ≡ code_of self }
     {

@@ -13,8 +13,8 @@ use Rattle.road.specs.declared.Road.{Road}
 use Rattle.refusal.specs.Outcome.{Outcome}
 use Rattle.modes.specs.Answers.{ReadAnswer}
 use Rattle.refusal.specs.Answer as R
-use Rattle.modes.specs.declared.reading.StateReading.{StateReading}
-use Rattle.modes.specs.declared.fitting.FitResult.{FitResult}
+use Rattle.modes.specs.Answers.{StateReading}
+use Rattle.modes.specs.Answers.{FitResult}
 use Rattle.modes.specs.Answers.{FitAnswer}
 use Rattle.refusal.specs.Answer as F
 use Rattle.rows.specs.Answers.{PredictAnswer}
@@ -42,7 +42,7 @@ module _ {r : Road} {cells : List ℕ} {up down : ℕ} {letters letters-next mod
   read_told e =
       judged_told (ReadJudged r cells up down (length letters) (length modes)) (λ (x : ReadAnswer). refused (read_number x) (read_place x)) e reads.judged
 
-  pub read_done : {counts : List ℕ} {queued : ℕ} → a.answer ≡ R.Done
+  pub read_done : {counts : List ℕ} {queued : ℕ} → a.answer ≡ R.Done tt
       → StateRead r cells up down letters letters-next modes modes-next counts a.counts.modes queued a.counts.queued 0 0
   read_done e = record {
     returned = meaning_along read_number e reads.number;

@@ -2,8 +2,7 @@
 ghost use Rattle.welgadou.specs.Parts.{road_of, totals_of};
 ghost use Rattle.welgadou.specs.Level1.{Forecasted, SettledRun};
 
-use super::parts::flag;
-use forecast::{ForecastAnswer, SettleAnswer};
+use super::parts::refused;
 use road::Road;
 use scheme::Totals;
 
@@ -43,18 +42,15 @@ pub fn welgadou_forecast_3(
     match forecast::forecast(
         road, cells, upstream, downstream, horizon, caps, totals, out,
     ) {
-        ForecastAnswer::Done(d) => {
-            *entered = d.own.entered;
-            *left = d.own.left;
-            *total_entered = d.totals.entered;
-            *total_left = d.totals.left;
+        Ok(record) => {
+            *entered = record.own.entered;
+            *left = record.own.left;
+            *total_entered = record.totals.entered;
+            *total_left = record.totals.left;
             *place = 0;
             0
         }
-        ForecastAnswer::Refused(f) => {
-            *place = f.place;
-            f.number
-        }
+        Err(refusal) => refused(refusal, place),
     }
 }
 
@@ -86,15 +82,12 @@ pub fn welgadou_settle_2(
         critical,
     };
     match forecast::settle(road, cells, upstream, downstream, horizon, caps, out) {
-        SettleAnswer::Done(s) => {
-            *settled = flag(s.settled);
-            *steps = s.steps;
+        Ok(run) => {
+            *settled = u32::from(run.settled);
+            *steps = run.steps;
             *place = 0;
             0
         }
-        SettleAnswer::Refused(f) => {
-            *place = f.place;
-            f.number
-        }
+        Err(refusal) => refused(refusal, place),
     }
 }

@@ -2,12 +2,8 @@
 ghost use Rattle.welgadou.specs.Parts.{road_of};
 ghost use Rattle.welgadou.specs.Level2.{StateRead, WordFitted, RowsPredicted, CandidatePredicted, WordsCounted};
 
-use super::parts::{flag, mode_byte};
-use candidate::CandidateAnswer;
-use counting::CountAnswer;
-use modes::{FitAnswer, ReadAnswer};
+use super::parts::{mode_byte, refused};
 use road::Road;
-use rows::PredictAnswer;
 
 // 0, with the letters in `letters`, the modes in `modes`, the seven counts behind `counts`, the queued cells in `queued`
 // and 0 in `place`; or the refusal's number with its place, and every other output as it was.
@@ -35,21 +31,14 @@ pub fn welgadou_read(
         jam,
         critical,
     };
-    let reading = modes::read(road, cells, upstream, downstream, letters, modes);
-    let answer = reading.answer;
-    match answer {
-        ReadAnswer::Done => {
-            let tally = reading.counts;
-            let seven = tally.modes;
-            *counts = seven;
+    match modes::read(road, cells, upstream, downstream, letters, modes) {
+        Ok(tally) => {
+            *counts = tally.modes;
             *queued = tally.queued;
             *place = 0;
             0
         }
-        ReadAnswer::Refused(f) => {
-            *place = f.place;
-            f.number
-        }
+        Err(refusal) => refused(refusal, place),
     }
 }
 
@@ -79,16 +68,13 @@ pub fn welgadou_fit(
         critical,
     };
     match modes::fit(road, cells, upstream, downstream, word) {
-        FitAnswer::Done(r) => {
-            *holds = flag(r.holds);
-            *face = r.face;
+        Ok(misfit) => {
+            *holds = u32::from(misfit.is_none());
+            *face = misfit.unwrap_or(0);
             *place = 0;
             0
         }
-        FitAnswer::Refused(f) => {
-            *place = f.place;
-            f.number
-        }
+        Err(refusal) => refused(refusal, place),
     }
 }
 
@@ -117,14 +103,11 @@ pub fn welgadou_rows(
         critical,
     };
     match rows::predict(road, cells, upstream, downstream, word, out) {
-        PredictAnswer::Done => {
+        Ok(()) => {
             *place = 0;
             0
         }
-        PredictAnswer::Refused(f) => {
-            *place = f.place;
-            f.number
-        }
+        Err(refusal) => refused(refusal, place),
     }
 }
 
@@ -153,15 +136,12 @@ pub fn welgadou_candidate_2(
         critical,
     };
     match candidate::candidate(road, mode_byte(mode), left, own, right) {
-        CandidateAnswer::Done(p) => {
-            *numerator = p.numerator;
+        Ok(prediction) => {
+            *numerator = prediction.numerator;
             *place = 0;
             0
         }
-        CandidateAnswer::Refused(f) => {
-            *place = f.place;
-            f.number
-        }
+        Err(refusal) => refused(refusal, place),
     }
 }
 
@@ -171,14 +151,11 @@ pub fn welgadou_count(cells: u32, words: &mut u64, place: &mut u32) -> u32
     ensures { WordsCounted cells words.old words.new place.new result }
 {
     match counting::count(cells) {
-        CountAnswer::Done(c) => {
-            *words = c.words;
+        Ok(count) => {
+            *words = count.words;
             *place = 0;
             0
         }
-        CountAnswer::Refused(f) => {
-            *place = f.place;
-            f.number
-        }
+        Err(refusal) => refused(refusal, place),
     }
 }

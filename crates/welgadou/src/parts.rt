@@ -1,17 +1,22 @@
-// What the C calls share: the flag of an answer, and the byte of a mode.
+// What the C calls share: the number and place of a refusal, and the byte of a mode.
 ghost use Rattle.std.specs.Prelude.{◌≡◌};
-ghost use Rattle.welgadou.specs.Parts.{flag_of, ModeByte};
+ghost use Rattle.refusal.specs.Answer.{number_of, place_of};
+ghost use Rattle.welgadou.specs.Parts.{ModeByte};
 
-// Internal: 1 for true, 0 for false.
-pub fn flag(b: bool) -> u32
-    ensures { result ≡ flag_of b }
+use refusal::Refusal;
+
+// Internal: the number of a refusal, with its place behind the reference.
+pub fn refused(refusal: Refusal, place: &mut u32) -> u32
+    ensures number { result ≡ number_of refusal }
+    ensures placed { place.new ≡ place_of refusal }
 {
-    if b { 1 } else { 0 }
+    *place = refusal.place();
+    refusal.number()
 }
 
 // Internal: the byte of a mode that C gives as a whole number: the number, or 255, which is no mode, where it is larger.
 pub fn mode_byte(mode: u32) -> u8
     ensures { ModeByte mode result }
 {
-    if mode < 256 { mode as u8 } else { 255 }
+    u8::try_from(mode).unwrap_or(u8::MAX)
 }

@@ -2,7 +2,7 @@
 ghost use Rattle.welgadou.specs.Parts.{road_of};
 ghost use Rattle.welgadou.specs.Rankings.{NearestRanked};
 
-use nearest::NearestAnswer;
+use super::parts::refused;
 use road::Road;
 
 // 0, with the cells' numbers in `numbers`, each one's smallest change that alters the word at the same place of `changes`,
@@ -30,13 +30,10 @@ pub fn welgadou_nearest(
         critical,
     };
     match nearest::nearest(road, cells, upstream, downstream, numbers, changes) {
-        NearestAnswer::Done => {
+        Ok(()) => {
             *place = 0;
             0
         }
-        NearestAnswer::Refused(f) => {
-            *place = f.place;
-            f.number
-        }
+        Err(refusal) => refused(refusal, place),
     }
 }

@@ -3,23 +3,21 @@ ghost use Rattle.station.specs.declared.stations.StationReading.TheVariants.{Den
 ghost use Rattle.welgadou.specs.Parts.{road_of};
 ghost use Rattle.welgadou.specs.Stations.{StationEstimated};
 
+use super::parts::refused;
 use road::Road;
-use station::{StationAnswer, StationReading};
+use station::StationReading;
 
 // Internal: what the three calls do with their reading.
 fn estimated(road: Road, reading: StationReading, estimate: &mut f64, place: &mut u32) -> u32
     ensures { StationEstimated road reading estimate.old estimate.new place.new result }
 {
     match station::station(road, reading) {
-        StationAnswer::Done(e) => {
-            *estimate = e.density;
+        Ok(found) => {
+            *estimate = found.density;
             *place = 0;
             0
         }
-        StationAnswer::Refused(f) => {
-            *place = f.place;
-            f.number
-        }
+        Err(refusal) => refused(refusal, place),
     }
 }
 

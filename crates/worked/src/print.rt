@@ -7,13 +7,11 @@ use std::fmt::Display;
 // How much of a list is shown.
 const MOST: usize = 4;
 
-// A refusal's number and place, or that nothing was refused.
-pub fn refusal(page: &mut Page, f: Refusal) {
-    if f.number == 0 {
-        write!(page, ": accepted");
-    } else {
-        write!(page, ": refused {} at {}", f.number, f.place);
-    }
+// A refusal's number and place.
+pub fn refusal(page: &mut Page, refusal: Refusal) {
+    let number = refusal.number();
+    let place = refusal.place();
+    write!(page, ": refused {number} at {place}");
 }
 
 // The start of a list of cells, letters or modes, and how many there are in all where there are more.

@@ -1,6 +1,7 @@
 // The calls of Level 1, each on its input, and what is said of their answers.
-use forecast::{ForecastAnswer, SettleAnswer};
+use forecast::Record;
 use printing::Page;
+use refusal::Refusal;
 use road::Road;
 use scheme::Totals;
 use worked::{lists, print};
@@ -32,7 +33,7 @@ impl Forecast<'_> {
         self.tell(page, lists::first(&mut lists::cells(7), self.places));
     }
 
-    pub fn made(self, out: &mut [u32]) -> ForecastAnswer {
+    pub fn made(self, out: &mut [u32]) -> Result<Record, Refusal> {
         forecast::forecast(
             self.road,
             self.cells,
@@ -48,11 +49,11 @@ impl Forecast<'_> {
     // What entered and left, or the refusal, and what the forecast left in the output.
     pub fn tell(self, page: &mut Page, out: &mut [u32]) {
         match self.made(out) {
-            ForecastAnswer::Done(d) => {
+            Ok(d) => {
                 let own = d.own;
                 write!(page, ": entered {}, left {}", own.entered, own.left);
             }
-            ForecastAnswer::Refused(f) => print::refusal(page, f),
+            Err(refusal) => print::refusal(page, refusal),
         }
         print::output(page, out);
         writeln!(page);
@@ -118,14 +119,14 @@ impl<'a> Settling<'a> {
             self.caps,
             out,
         ) {
-            SettleAnswer::Done(s) => {
+            Ok(s) => {
                 if s.settled {
                     write!(page, ": settled after {}", s.steps);
                 } else {
                     write!(page, ": unsettled after {}", s.steps);
                 }
             }
-            SettleAnswer::Refused(f) => print::refusal(page, f),
+            Err(refusal) => print::refusal(page, refusal),
         }
         print::output(page, out);
     }

@@ -2,7 +2,6 @@
 use super::calls;
 use super::calls::Forecast;
 use super::roads::{A, D_2177, HALVES, NARROWEST, Named, ONE_HALF, WIDEST};
-use forecast::ForecastAnswer;
 use printing::Page;
 use scheme::OPEN;
 use worked::print;
@@ -49,11 +48,11 @@ pub fn cases(page: &mut Page) {
             places: 1,
         };
         match one_step.made(&mut [7]) {
-            ForecastAnswer::Done(d) => {
+            Ok(d) => {
                 let own = d.own;
                 write!(page, ": moves {}", own.entered);
             }
-            ForecastAnswer::Refused(f) => print::refusal(page, f),
+            Err(refusal) => print::refusal(page, refusal),
         }
         writeln!(page);
     }

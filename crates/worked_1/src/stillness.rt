@@ -46,7 +46,8 @@ pub fn cases(page: &mut Page) {
         settling.tell(page, settled);
         let mut forecast = lists::cells(7);
         let forecast = lists::first(&mut forecast, cells.len());
-        settling
+        // What it answers is left aside: the cells tell.
+        let _ = settling
             .forecast(&lists::ends(up), &lists::ends(0))
             .made(forecast);
         write!(page, ", the forecast over T copies of the pair: ");

@@ -1,7 +1,7 @@
 // Totals since commissioning: increased beside the own counts, at the largest and one unit past it, and carried along a
 // chain.
 use super::calls::Forecast;
-use forecast::{ForecastAnswer, Record};
+use forecast::Record;
 use printing::Page;
 use scheme::{OPEN, Totals};
 use worked::{print, roads};
@@ -100,8 +100,8 @@ pub fn cases(page: &mut Page) {
         let mut out = [7];
         write!(page, "{}", forecast.name);
         match forecast.made(&mut out) {
-            ForecastAnswer::Done(d) => count(page, d),
-            ForecastAnswer::Refused(f) => print::refusal(page, f),
+            Ok(d) => count(page, d),
+            Err(refusal) => print::refusal(page, refusal),
         }
         print::output(page, &out);
         writeln!(page);
@@ -131,12 +131,12 @@ pub fn chain(page: &mut Page) {
             ..STARRED
         };
         match step.made(&mut out) {
-            ForecastAnswer::Done(d) => {
+            Ok(d) => {
                 count(page, d);
                 cells = out;
                 totals = d.totals;
             }
-            ForecastAnswer::Refused(f) => print::refusal(page, f),
+            Err(refusal) => print::refusal(page, refusal),
         }
         write!(page, ", cells");
         print::cells(page, &cells);

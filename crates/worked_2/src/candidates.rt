@@ -1,5 +1,4 @@
 // Candidate predictions: numerators above, at and below zero, and refusals with their places.
-use candidate::CandidateAnswer;
 use printing::Page;
 use road::Road;
 use std::num::f64_to_bits_with_nan;
@@ -44,11 +43,11 @@ pub fn cases(page: &mut Page) {
         let Case(name, road, mode, left, own, right, expected) = *case;
         write!(page, "candidate {name}");
         match candidate::candidate(road, mode, left, own, right) {
-            CandidateAnswer::Done(p) if same(p.numerator, expected) => {
+            Ok(p) if same(p.numerator, expected) => {
                 write!(page, ": as expected");
             }
-            CandidateAnswer::Done(_) => write!(page, ": another value"),
-            CandidateAnswer::Refused(f) => print::refusal(page, f),
+            Ok(_) => write!(page, ": another value"),
+            Err(refusal) => print::refusal(page, refusal),
         }
         writeln!(page);
     }

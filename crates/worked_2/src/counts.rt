@@ -1,5 +1,4 @@
 // Word counts: the worked ones, the edges, and the refusal one beyond.
-use counting::CountAnswer;
 use printing::Page;
 use worked::print;
 
@@ -11,8 +10,8 @@ pub fn cases(page: &mut Page) {
     for cells in &CELLS {
         write!(page, "words for {cells} cells");
         match counting::count(*cells) {
-            CountAnswer::Done(c) => write!(page, ": {}", c.words),
-            CountAnswer::Refused(f) => print::refusal(page, f),
+            Ok(c) => write!(page, ": {}", c.words),
+            Err(refusal) => print::refusal(page, refusal),
         }
         writeln!(page);
     }

@@ -1,6 +1,5 @@
 // Fit tests: the state's own word, foreign words, and refusals with their places.
 use super::letters::{D, L, W, X, Y};
-use modes::FitAnswer;
 use printing::Page;
 use road::Road;
 use worked::print;
@@ -58,9 +57,9 @@ pub fn cases(page: &mut Page) {
         let Case(name, road, cells, up, word) = *case;
         write!(page, "fit {name}");
         match modes::fit(road, cells, up, 0, word) {
-            FitAnswer::Done(f) if f.holds => write!(page, ": all faces hold"),
-            FitAnswer::Done(f) => write!(page, ": does not hold at face {}", f.face),
-            FitAnswer::Refused(f) => print::refusal(page, f),
+            Ok(None) => write!(page, ": all faces hold"),
+            Ok(Some(face)) => write!(page, ": does not hold at face {face}"),
+            Err(refusal) => print::refusal(page, refusal),
         }
         writeln!(page);
     }

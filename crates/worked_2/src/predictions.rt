@@ -1,7 +1,6 @@
 // Row predictions: numerators below, at and above zero, and refusals with their places.
 use super::letters::{D, L, W};
 use printing::Page;
-use rows::PredictAnswer;
 use worked::roads::A;
 use worked::{lists, print};
 
@@ -35,8 +34,8 @@ pub fn cases(page: &mut Page) {
         let out = lists::first(&mut out, places);
         write!(page, "rows {name}");
         match rows::predict(A, cells, up, 0, word, out) {
-            PredictAnswer::Done => write!(page, ": done"),
-            PredictAnswer::Refused(f) => print::refusal(page, f),
+            Ok(()) => write!(page, ": done"),
+            Err(refusal) => print::refusal(page, refusal),
         }
         write!(page, ",");
         page.numerators(out);

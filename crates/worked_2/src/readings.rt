@@ -1,5 +1,4 @@
 // Readings: the worked case, refusals with their places, and the edges.
-use modes::ReadAnswer;
 use printing::Page;
 use road::Road;
 use worked::roads::{A, C_201};
@@ -17,15 +16,13 @@ impl State<'_> {
         let letters = lists::first(&mut letters_out, letters);
         let mut modes_out = lists::codes();
         let codes = lists::first(&mut modes_out, modes);
-        let reading = modes::read(road, cells, up, down, letters, codes);
-        match reading.answer {
-            ReadAnswer::Done => {
-                let counts = reading.counts;
+        match modes::read(road, cells, up, down, letters, codes) {
+            Ok(counts) => {
                 write!(page, ": counts");
                 page.list(&counts.modes);
                 write!(page, ", queued {}", counts.queued);
             }
-            ReadAnswer::Refused(f) => print::refusal(page, f),
+            Err(refusal) => print::refusal(page, refusal),
         }
         write!(page, ", letters");
         print::list(page, letters);

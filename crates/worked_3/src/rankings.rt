@@ -1,5 +1,4 @@
 // How near the next mode is: the worked cases, a tie, roundings, the smallest road, and refusals with their places.
-use nearest::NearestAnswer;
 use printing::Page;
 use road::Road;
 use worked::roads::{A, D_0, J_5, J_9, NARROWEST};
@@ -125,8 +124,8 @@ pub fn cases(page: &mut Page) {
         let changes = lists::first(&mut changes_out, changes);
         write!(page, "nearest {name}");
         match nearest::nearest(road, cells, up, down, numbers, changes) {
-            NearestAnswer::Done => write!(page, ": done"),
-            NearestAnswer::Refused(f) => print::refusal(page, f),
+            Ok(()) => write!(page, ": done"),
+            Err(refusal) => print::refusal(page, refusal),
         }
         write!(page, ", cells");
         page.list(numbers);

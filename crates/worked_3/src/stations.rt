@@ -2,7 +2,7 @@
 use printing::Page;
 use road::Road;
 use station::StationReading::{Density, FlowAndSpeed, Speed};
-use station::{StationAnswer, StationReading};
+use station::StationReading;
 use worked::print;
 use worked::roads::{A, OTHER_WAVE, P_6, THIRDS};
 
@@ -103,8 +103,8 @@ static BAD: [(&str, f64); 5] = [
 // One reading: the bits of its estimate, or the refusal.
 fn show(page: &mut Page, reading: StationReading, road: Road) {
     match station::station(road, reading) {
-        StationAnswer::Done(e) => print::bits(page, e.density),
-        StationAnswer::Refused(f) => print::refusal(page, f),
+        Ok(e) => print::bits(page, e.density),
+        Err(refusal) => print::refusal(page, refusal),
     }
     writeln!(page);
 }
