@@ -1,5 +1,5 @@
 // The seven modes of a cell, and the one that the letters of its two faces give it.
-ghost use Rattle.std.specs.Prelude.{◌≡◌};
+ghost use Rattle.std.specs.Prelude.{◌≡◌, ◌-◌};
 ghost use Rattle.modes.specs.Modes.{mode_of};
 ghost use Rattle.modes.specs.Codes.{code_of, ModeOfCode};
 
@@ -40,6 +40,13 @@ impl Mode {
         ensures { result ≡ code_of self }
     {
         self as u8
+    }
+
+    // Internal: the mode's place in `ALL`, and so in a table with an entry a mode.
+    pub fn place(self) -> usize
+        ensures { result ≡ code_of self - 1 }
+    {
+        self as usize - 1
     }
 
     // Internal: the mode of a cell between two letters, of a legal pair.

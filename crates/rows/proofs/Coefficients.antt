@@ -14,12 +14,16 @@ use Rattle.road.specs.Judgement.{Accepted}
 use Rattle.road.specs.declared.Road.{Road}
 use lib.ListN.{get_or}
 use Rattle.floats.proofs.Signs.{signed_mul}
-use Rattle.rows.specs.Rows.{terms, row_value}
+use Rattle.rows.specs.Rows.{row_of, terms, row_value}
 use Rattle.rows.specs.Coefficients.{entry, left_coefficient, own_coefficient, right_coefficient, constant_of, whole_row_of, whole_rows, applied_to, Sized}
 use Rattle.rows.specs.declared.numerators.WholeRow.{WholeRow}
 use Rattle.floats.proofs.Signs.{nat_abs_add, nat_abs_mul}
 use Rattle.rows.proofs.Integers.{+ℤ-times}
-use Rattle.modes.proofs.Seven.{each_mode}
+use Rattle.modes.specs.Codes.{code_of}
+use Rattle.modes.specs.declared.mode.Mode.{Mode}
+use Rattle.modes.specs.declared.mode.Mode.TheVariants.{WW, WL, LW, LD, DW, DL, DD}
+use Rattle.modes.proofs.ModeRange.{code_range}
+use Rattle.rows.proofs.Table.{entry_small}
 use Rattle.rows.proofs.Sizes.{largest, sum_to, sum_row, fits, exact_in_i64, pos_exact_in_i64, entry_times, free_small, wave_small, row_small}
 
 -- a term as the code has it, by the natural that it is shown to be
@@ -105,6 +109,22 @@ module _ (mode : ℕ) (low : 1 ≤ mode) (high : mode ≤ 7) where
     pub sized : Sized (whole_row_of r mode)
     unfolding whole_row_of
     sized = record { left_small = left_small; own_small = own_small; right_small = right_small; constant_small = constant_small }
+
+-- a mode's row of the table, as the code reads it: its multipliers, and a weighted term
+module _ (m : Mode) {ms : List ℤ} (e : ms ≡ row_of (code_of m)) where
+  multiplier_read : (k : ℕ) → k < 7 → to_z w64 (of_z w64 (get_or ms k (pos 0))) ≡ entry (code_of m) k
+  multiplier_read k h =
+      let (low, high) = code_range m in
+      exact_in_i64 (ap (λ (l : List ℤ). get_or l k (pos 0)) e) (le_trans (entry_small (code_of m) k low high h) (lit≤ tt))
+
+  pub multiplier_small : (k : ℕ) → k < 7 → nat_abs (to_z w64 (of_z w64 (get_or ms k (pos 0)))) ≤ 1
+  multiplier_small k h = let (low, high) = code_range m in rw (multiplier_read k h) (entry_small (code_of m) k low high h)
+
+  pub weighted_part : {z t : ℤ} (k n : ℕ) → k < 7 → n ≤ largest → t ≡ pos n → z ≡ to_z w64 (of_z w64 (get_or ms k (pos 0))) *ℤ t
+      → to_z w64 (of_z w64 z) ≡ entry (code_of m) k *ℤ pos n
+  weighted_part {t = t} k n h small q s =
+      let (low, high) = code_range m in
+      part_exact (code_of m) low high k n h small q (s ∙ ap (λ (x : ℤ). x *ℤ t) (multiplier_read k h))
 
 -- a density times a coefficient, as the code has them
 module _ {n : ℕ} (k : ℤ) {bound : ℕ} (h : n ≤ jam_ceiling) (g : nat_abs k ≤ bound) (few : bound ≤ 3 * divisor_ceiling) where
@@ -205,24 +225,33 @@ row_split r ok mode low high left own right l o t =
         ∙ sym (times_three (pos own) (pos r.divisor) (entry mode 1 *ℤ pos r.free) (entry mode 2 *ℤ pos r.wave))
 
 -- a row that the code reads in the list of all rows, at its mode's place
-module _ (r : Road) (ok : Accepted r) {rows : List WholeRow} (e : rows ≡ whole_rows r) (d : WholeRow) (mode : ℕ) (low : 1 ≤ mode) (high : mode ≤ 7) where
-  row_read : get_or rows (mode - 1) d ≡ whole_row_of r mode
+module _ (r : Road) (ok : Accepted r) {rows : List WholeRow} (e : rows ≡ whole_rows r) (d : WholeRow) (m : Mode) {place : ℕ} (at : place ≡ code_of m - 1) where
+  row_read : get_or rows place d ≡ whole_row_of r (code_of m)
   unfolding whole_rows
-  row_read = e' ∙ each_mode (λ (m : ℕ). get_or (whole_rows r) (m - 1) d ≡ whole_row_of r m) refl refl refl refl refl refl refl mode low high
+  row_read = ap₂ (λ (l : List WholeRow) (i : ℕ). get_or l i d) e at ∙ in_all m
     where
-      e' : get_or rows (mode - 1) d ≡ get_or (whole_rows r) (mode - 1) d
-      e' = ap (λ (l : List WholeRow). get_or l (mode - 1) d) e
+      in_all : (m : Mode) → get_or (whole_rows r) (code_of m - 1) d ≡ whole_row_of r (code_of m)
+      in_all WW = refl
+      in_all WL = refl
+      in_all LW = refl
+      in_all LD = refl
+      in_all DW = refl
+      in_all DL = refl
+      in_all DD = refl
 
-  pub read_sized : Sized (get_or rows (mode - 1) d)
-  read_sized = rw row_read (sized mode low high r ok)
+  pub read_sized : Sized (get_or rows place d)
+  read_sized = let (low, high) = code_range m in rw row_read (sized (code_of m) low high r ok)
 
   pub read_applied : (left own right : ℕ) → left ≤ r.jam → own ≤ r.jam → right ≤ r.jam
-      → applied_to (get_or rows (mode - 1) d) left own right ≡ row_value r mode left own right
+      → applied_to (get_or rows place d) left own right ≡ row_value r (code_of m) left own right
   unfolding whole_row_of applied_to
   read_applied left own right l o t =
-      ap (λ (row : WholeRow). applied_to row left own right) row_read ∙ sym (row_split r ok mode low high left own right l o t)
+      let (low, high) = code_range m in
+      ap (λ (row : WholeRow). applied_to row left own right) row_read ∙ sym (row_split r ok (code_of m) low high left own right l o t)
 
   -- the value, as it is read back to be written
   pub read_value : (left own right : ℕ) → left ≤ r.jam → own ≤ r.jam → right ≤ r.jam → {z : ℤ}
-      → z ≡ applied_to (get_or rows (mode - 1) d) left own right → to_z w64 (of_z w64 z) ≡ row_value r mode left own right
-  read_value left own right l o t e = exact_in_i64 (e ∙ read_applied left own right l o t) (row_small r ok left own right l o t mode low high)
+      → z ≡ applied_to (get_or rows place d) left own right → to_z w64 (of_z w64 z) ≡ row_value r (code_of m) left own right
+  read_value left own right l o t e =
+      let (low, high) = code_range m in
+      exact_in_i64 (e ∙ read_applied left own right l o t) (row_small r ok left own right l o t (code_of m) low high)

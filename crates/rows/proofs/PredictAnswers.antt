@@ -1,6 +1,6 @@
 -- The row prediction's judgement and its answers: which inputs no check refuses, what is written of them, and what is answered of the others.
-use mathlib.Core.Path.{◌≡◌, refl, ap}
-use mathlib.Core.Bool.{true≢false}
+use mathlib.Core.Path.{◌≡◌, ◌∙◌, refl, sym, ap}
+use mathlib.Core.Bool.{Bool, true≢false}
 use mathlib.Core.List.{List, [], ◌∷◌}
 use Prim.Native.Nat.{ℕ}
 use lib.IntN.{ℤ}
@@ -16,7 +16,15 @@ use Rattle.rows.specs.Rows.{row_numerators}
 use Rattle.rows.specs.Judging.{predict_checks, predict_refusal}
 use Rattle.words.specs.Places.{PairWordPlaced}
 use Rattle.rows.specs.Prediction.{predict_answer, predicted, PredictChecked, Predicts}
-use Rattle.refusal.specs.Answer.{Done, Refused}
+use Rattle.refusal.specs.Answer.{Done, Refused, outcome_of, answer_of}
+use Rattle.refusal.specs.Table.{passed}
+use Rattle.refusal.specs.declared.Refusal.{Refusal}
+use Rattle.refusal.proofs.Results.{numbered}
+use Rattle.checks.specs.Lists.{bad_output}
+use Rattle.words.specs.Judging.{state_word_refusal}
+use Rattle.std.specs.Prelude.{IsErrAnd, Result}
+use Rattle.std.proofs.lemmas.Result.{err_from_is_err_and}
+use native.Mathlib.Omega.{arith}
 use Rattle.words.proofs.WordCheck.{word_long, word_legal, state_word_passes, pair_word_placed}
 use Rattle.rows.proofs.PredictState.{predict_state}
 
@@ -56,7 +64,7 @@ module _ (r : Road) (cells : List ℕ) (up down : ℕ) (word : List ℕ) where
 
     -- accepted: the rows
     pub done : (predict_refusal r cells up down word (length out)).number ≡ 0 → (next : List ℤ) → next ≡ row_numerators r up down word cells
-        → Predicts r cells up down word out next Done
+        → Predicts r cells up down word out next (Done tt)
     unfolding predict_answer predicted
     done e next is =
         let k = accepts (predict_call (length out)) e in
@@ -68,3 +76,19 @@ module _ (r : Road) (cells : List ℕ) (up down : ℕ) (word : List ℕ) where
           judged = k.judged;
           state = λ q. predict_state r cells up down word (length out) k.checked next is;
         }
+
+    -- the judgement of a state and a word, with check 8 of the output, is the row prediction's
+    module _ (bad : Bool) (eight : bad ≡ bad_output (length cells) (length out)) where
+      judgement : state_word_refusal r cells up down word bad ≡ predict_refusal r cells up down word (length out)
+      unfolding predict_refusal state_word_refusal
+      judgement = ap (state_word_refusal r cells up down word) eight
+
+      -- so that a refusal of it is refused, and what passed it is checked
+      pub refused_by : (f : Refusal) (a : Result (Unit {0}) Refusal) → IsErrAnd a (λ g. g ≡ f) → outcome_of f ≡ state_word_refusal r cells up down word bad
+          → Predicts r cells up down word out out (answer_of a)
+      refused_by f a is_err e =
+          let p = err_from_is_err_and a is_err in
+          rw (p.1, p.2) (refused (outcome_of f) (e ∙ judgement) (λ z. let n = numbered f in omega arith))
+
+      pub passes : passed ≡ state_word_refusal r cells up down word bad → (predict_refusal r cells up down word (length out)).number ≡ 0
+      passes e = sym (ap (λ (g : Outcome). g.number) (e ∙ judgement))

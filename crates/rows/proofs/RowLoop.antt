@@ -1,6 +1,5 @@
 -- The rows, midway: the output's first i places hold the numerators of the first i cells.
 use mathlib.Core.Path.{◌≡◌, ◌∙◌, refl, sym, ap, ap₂}
-use mathlib.Core.Bool.{true}
 use mathlib.Core.List.{List, ◌∷◌, ◌++◌, append-nil}
 use Prim.Native.Nat.{ℕ, suc, ◌+◌, ◌≤◌, ◌<◌}
 use native.Mathlib.Numerals.{add-one}
@@ -10,23 +9,13 @@ use lib.ListN.{length, get_or, take, drop, set, length-set, drop_of_length-le}
 use lib.Seq.{drop-cons, take-suc-set, take_all, append_snoc}
 use Rattle.road.specs.declared.Road.{Road}
 use Rattle.scheme.specs.Advance.{ahead}
-use Rattle.words.specs.Words.{legal}
 use Rattle.modes.specs.Modes.{mode_of}
 use Rattle.rows.specs.Rows.{row_value, row_numerators}
-use Rattle.words.proofs.Legal.{legal_word, legal_known}
-use Rattle.modes.proofs.ModeRange.{mode_range}
 
 pub record RowsWritten (r : Road) (up down : ℕ) (word cells : List ℕ) (out : List ℤ) (left i : ℕ) : Type 0 where
   pub long : length out ≡ length cells
   pub low : left ≤ r.jam
   pub rows : take i out ++ row_numerators r left down (drop i word) (drop i cells) ≡ row_numerators r up down word cells
-
--- two neighbouring letters of a legal word have a mode
-pub legal_mode : (word : List ℕ) → legal word ≡ true → (i : ℕ)
-    → (1 ≤ mode_of (get_or word i 0) (get_or word (i + 1) 0)) × (mode_of (get_or word i 0) (get_or word (i + 1) 0) ≤ 7)
-legal_mode word e i =
-    let known = legal_known ((legal_word word).0 e) in
-    mode_range (get_or word i 0) (get_or word (i + 1) 0) (known i) (known (i + 1))
 
 module _ (r : Road) (up down : ℕ) (word cells : List ℕ) where
   pub begins : (out : List ℤ) → length out ≡ length cells → up ≤ r.jam → RowsWritten r up down word cells out up 0

@@ -3,4 +3,5 @@ pub mod Rows
 pub mod SevenModes
 pub mod Coefficients
 pub mod Judging
+pub mod Answers
 pub mod Prediction

@@ -18,7 +18,7 @@ use Rattle.refusal.specs.Answer.{Done, Refused}
 
 unfoldable pub predict_answer : Road → List ℕ → ℕ → ℕ → List ℕ → ℕ → PredictAnswer
 predict_answer r cells up down word out =
-    unless_refused (predict_refusal r cells up down word out) Done (Refused (predict_refusal r cells up down word out))
+    unless_refused (predict_refusal r cells up down word out) (Done tt) (Refused (predict_refusal r cells up down word out))
 
 -- the numerators written, or the former contents
 unfoldable pub predicted : Road → List ℕ → ℕ → ℕ → List ℕ → List ℤ → List ℤ
@@ -27,11 +27,11 @@ predicted r cells up down word out =
 
 -- the paper's numbers of an answer: number (0 when accepted) and place
 abbrev pub predict_number : PredictAnswer → ℕ
-predict_number Done = 0
+predict_number (Done made) = 0
 predict_number (Refused f) = f.number
 
 abbrev pub predict_place : PredictAnswer → ℕ
-predict_place Done = 0
+predict_place (Done made) = 0
 predict_place (Refused f) = f.place
 
 -- what an input that no check refuses is
@@ -77,4 +77,4 @@ pub record Predicts (r : Road) (cells : List ℕ) (up down : ℕ) (word : List �
   pub output : next ≡ predicted r cells up down word out
   pub judged : PredictJudged r cells up down word (length out) (refused (predict_number a) (predict_place a))
   -- demand 2, of an accepted call: of the numerators handed back
-  pub state : a ≡ Done → PredictState r cells up down word next
+  pub state : a ≡ Done tt → PredictState r cells up down word next

@@ -6,4 +6,4 @@ mod numerators;
 mod prediction;
 
 pub use numerators::WholeRow;
-pub use prediction::{PredictAnswer, predict};
+pub use prediction::predict;

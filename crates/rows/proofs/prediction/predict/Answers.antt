@@ -1,25 +1,27 @@
 -- `rows::predict` meets its contract: refused, nothing is written; otherwise the rows are.
 use Rattle.std.proofs.Common.{length}
-use Rattle.refusal.proofs.Parts.{same_number}
 use Rattle.refusal.proofs.Calls.{checked}
-use Rattle.rows.proofs.PredictAnswers.{predict_call, refused, done}
+use Rattle.rows.proofs.PredictAnswers.{predict_call, refused_by, passes, done}
 use Rattle.rows.proofs.prediction.predict.Goals as goal
 
-pub returns-then-refusal-ne0 : goal.returns-then-refusal-ne0
-returns-then-refusal-ne0 c =
+pub returns-in_err-accepted : goal.returns-in_err-accepted
+returns-in_err-accepted c =
     let a = c.args in
-    refused a.road a.cells.now a.up a.down a.word.now a.out.now
-    c.judged-refusal.result c.judged-refusal.ensures c.if-refusal-ne0.true
+    refused_by a.road a.cells.now a.up a.down a.word.now a.out.now c.bad_output-bad.result c.bad_output-bad.ensures
+    c.in_err-accepted.field-0.0 c.from_residual.result c.from_residual.ensures.1 c.in_err-accepted.ensures.refusal
 
--- past the branch nothing is refused
+-- past the `?` nothing is refused
 pub write_rows-requires : goal.write_rows-requires
 write_rows-requires c =
     let a = c.args in
-    checked (predict_call a.road a.cells.now a.up a.down a.word.now (length a.out.now))
-    (same_number c.judged-refusal.ensures c.if-refusal-ne0.false)
+    let e = passes a.road a.cells.now a.up a.down a.word.now a.out.now c.bad_output-bad.result c.bad_output-bad.ensures c.in_ok-accepted.ensures.refusal in
+    rw c.in_ok-accepted.ensures.word.state.cells (checked (predict_call a.road a.cells.now a.up a.down a.word.now (length a.out.now)) e).output_long
 
 pub returns : goal.returns
 returns c =
     let a = c.args in
-    done a.road a.cells.now a.up a.down a.word.now a.out.now (same_number c.judged-refusal.ensures c.if-refusal-ne0.false)
-    c.write_rows.new.out c.write_rows.ensures
+    let w = c.in_ok-accepted.ensures.word in
+    let s = w.state in
+    let e = passes a.road a.cells.now a.up a.down a.word.now a.out.now c.bad_output-bad.result c.bad_output-bad.ensures c.in_ok-accepted.ensures.refusal in
+    done a.road a.cells.now a.up a.down a.word.now a.out.now e
+    c.write_rows.new.out (rw (s.road, s.up, s.down, w.word, s.cells) at c.write_rows.ensures)

@@ -1,10 +1,6 @@
 -- The loop of `rows::write_rows` keeps `RowsWritten`.
-use Rattle.std.proofs.Common.{◌-◌, length}
 use Rattle.rows.proofs.RowLoop.{RowsWritten}
 use Rattle.rows.proofs.prediction.write_rows.Given as goal
 
-abbrev pub invariant-loop-i : goal.invariant-loop-i
-invariant-loop-i l = RowsWritten l.fn.road l.up l.down l.word l.cells l.out l.left l.i
-
-abbrev pub decreases-loop-i : goal.decreases-loop-i
-decreases-loop-i l = length l.cells - l.i
+abbrev pub invariant-loop-cell : goal.invariant-loop-cell
+invariant-loop-cell l = RowsWritten l.state.road.road l.state.up l.state.down l.word l.state.cells.now l.out l.left l.cell
