@@ -1,8 +1,8 @@
 // Station readings: the three kinds, their roundings, the edges of each refusal, and bad numbers in every place.
 use printing::Page;
 use road::Road;
-use station::StationReading::{Density, FlowAndSpeed, Speed};
 use station::StationReading;
+use station::StationReading::{Density, FlowAndSpeed, Speed};
 use worked::print;
 use worked::roads::{A, OTHER_WAVE, P_6, THIRDS};
 
