@@ -18,7 +18,8 @@ pub struct WholeRow {
 }
 
 // A row a mode, in the order of their codes. Its columns: p × left, p × own, q × own, q × right, q × C, p × C, q × J.
-const ROWS: [[i64; 7]; 7] = [
+// A static: a const would be laid on the stack of every call that reads it.
+static ROWS: [[i64; 7]; 7] = [
     [0, 0, -1, 1, 0, 0, 0],
     [0, 0, -1, 0, 1, 0, 0],
     [0, 0, 0, 1, -1, 0, 0],
