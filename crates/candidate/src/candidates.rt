@@ -56,7 +56,8 @@ pub fn bad_estimate(jam: u32, x: f64) -> bool
     x.is_nan() || x < 0.0 || f64::from(jam) < x
 }
 
-// Internal: the mode's row, or the first of checks 1 to 4, 13 and 14 that refuses the call.
+// Internal: the mode's row, or the first of checks 1 to 4, 13 and 14 that refuses the call. The mode is any byte, as the public
+// call promises: 13 judges it.
 #[tactic(auto, unfolding(crate::specs::Candidate::candidate_refusal, refusal::specs::Table::or_if))]
 fn judged(road: Road, mode: u8, left: f64, own: f64, right: f64) -> Result<CandidateRow, Refusal>
     ensures refusal { judged_of result ≡ candidate_refusal road mode left own right }

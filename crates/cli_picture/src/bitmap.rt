@@ -67,7 +67,8 @@ pub fn start_byte(width: u16, height: u16, at: usize) -> u8
     }
 }
 
-// The output then holds the file's bytes from its first one on; 1,078 of them come before the rows.
+// The output then holds the file's bytes from its first one on; 1,078 of them come before the rows. (`stretch` fills a list
+// too: one function for both would take the byte as a closure, and each is one line as it is.)
 #[tactic(auto, using(crate::proofs::Listing::begins, crate::proofs::Listing::turns, crate::proofs::Listing::ends))]
 pub fn write_start(width: u16, height: u16, out: &mut [u8])
     ensures { out.new ≡ listed (length out.old) (start_byte width height) }

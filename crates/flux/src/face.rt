@@ -1,5 +1,5 @@
 // One face as document 01 writes it: what its cells send and receive, the units moved.
-ghost use Rattle.std.specs.Prelude.{◌≡◌, ◌≤◌, ◌<◌};
+ghost use Rattle.std.specs.Prelude.{◌≡◌, ◌<◌};
 ghost use Rattle.flux.specs.Face.{sending, receiving, units};
 
 use road::{AcceptedRoad, Road};
@@ -15,10 +15,9 @@ pub fn sending(road: AcceptedRoad, a: u32) -> u32
 // Internal: what a cell of density b can receive, times the divisor.
 #[tactic(auto, unfolding(crate::specs::Face::receiving))]
 pub fn receiving(road: AcceptedRoad, b: u32) -> u32
-    requires { b ≤ road.road.jam }
     ensures { result ≡ receiving road.road b }
 {
-    road.road.wave * (road.road.jam - b.max(road.road.critical))
+    road.road.wave * road.road.jam.saturating_sub(b.max(road.road.critical))
 }
 
 // Internal: the units of a numerator, by division: to the nearest, an exact half up. The pace of a road has them without one.

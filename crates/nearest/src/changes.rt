@@ -19,7 +19,6 @@ pub fn left_threshold(road: AcceptedRoad, a: u32) -> u32
 // letter is D.
 #[tactic(auto, unfolding(flux::specs::Thresholds::right_threshold))]
 pub fn right_threshold(road: AcceptedRoad, b: u32) -> u32
-    requires { b ≤ road.road.jam }
     ensures { result ≡ right_threshold road.road b }
 {
     flux::receiving(road, b) / road.road.free

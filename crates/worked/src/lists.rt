@@ -1,4 +1,5 @@
-// Lists of one value, as long as the ceilings and one beyond, and so much of a list as is lent.
+// Lists of one value, as long as the ceilings and one beyond, and so much of a list as is lent. Each list is a function of its
+// own since its promise is: the length, by the ceiling that it goes beyond, which a generic one could not name.
 ghost use Rattle.std.specs.Prelude.{◌≡◌, ◌+◌, length, min};
 ghost use Rattle.road.specs.Ceilings.{cells_ceiling, horizon_ceiling};
 

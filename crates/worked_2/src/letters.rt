@@ -1,4 +1,5 @@
-// The codes of the letters, and two codes that are no letters, the first and another.
+// The codes of the letters, and two codes that are no letters, the first and another. A word is bytes, as C gives it, and
+// the cases hand over what no letter is.
 pub const W: u8 = 0;
 
 pub const L: u8 = 1;
