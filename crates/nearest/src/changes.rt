@@ -34,12 +34,15 @@ pub fn crossing(road: AcceptedRoad, own: u32, left: u32, right: u32) -> i32
     ensures { result ≡ crossing road.road.jam own left right }
 {
     if own <= right {
-        (right + 1 - own) as i32
-    } else if left < own {
-        -((own - left) as i32)
-    } else if left < road.road.jam && left + 1 - own < own - right {
-        (left + 1 - own) as i32
-    } else {
-        -((own - right) as i32)
+        return (right + 1 - own) as i32;
     }
+    if left < own {
+        return -((own - left) as i32);
+    }
+    let down = own - right;
+    if road.road.jam <= left {
+        return -(down as i32);
+    }
+    let up = left + 1 - own;
+    if up < down { up as i32 } else { -(down as i32) }
 }
