@@ -11,7 +11,7 @@ use Rattle.scheme.specs.Advance.{ahead, advance, outflow, entering, leaving, ste
 use Rattle.scheme.specs.Sums.{Below}
 use Rattle.scheme.specs.Partners.{Lawful}
 use Rattle.scheme.specs.Calls.{Stepped}
-use Rattle.scheme.proofs.Range.{in_room}
+use Rattle.scheme.proofs.Range.{in_room, out_holds}
 use Rattle.scheme.proofs.Ahead.{ahead_is, enters}
 
 -- Why one list is enough (document 02, E5: "The step may not hold a second list of old densities"). With the list's places from 0, place i lies between faces i and i + 1. The densities before i are new
@@ -59,6 +59,10 @@ module _ {j c : ℕ} {F : ℕ → ℕ → ℕ → ℕ} (laws : Lawful 1 j c F) w
         left = ap (λ (w : ℕ). outflow F 1 w down old) same;
       }
 
+  -- what a face moves its left cell holds
+  pub holds : {out i a b : ℕ} → out ≡ F i a b → out ≤ a
+  holds {out} {i} {a} {b} e = omega (arith, out_holds laws i a b)
+
   module _ {up down : ℕ} {old : List ℕ} {first : ℕ} {x : List ℕ} {i inflow : ℕ} (now : StepUnderway j F up down old first x i inflow) {out : ℕ} where
     turn : suc i < length x → out ≡ F (suc i) (get_or x i 0) (get_or x (suc i) 0) → StepUnderway j F up down old first (set x i (get_or x i 0 + inflow - out)) (suc i) out
     turn h e =
@@ -100,11 +104,11 @@ module _ {j c : ℕ} {F : ℕ → ℕ → ℕ → ℕ} (laws : Lawful 1 j c F) w
         }
 
     -- the same, with the last cell's place as the code has it
-    pub ends : length old - 1 ≤ i → out ≡ F (length old) (get_or x (length old - 1) 0) down
-        → Stepped F up down old (set x (length old - 1) (get_or x (length old - 1) 0 + inflow - out)) record { entered = first; left = out }
-    ends h e =
+    pub ends : {k : ℕ} → k ≤ i → length old ≡ k + 1 → out ≡ F (length old) (get_or x k 0) down
+        → Stepped F up down old (set x k (get_or x k 0 + inflow - out)) record { entered = first; left = out }
+    ends {k} h last e =
         let long = now.long in
         let inside = now.inside in
-        let place : length old - 1 ≡ i = omega arith in
+        let place : k ≡ i = omega arith in
         let all : length old ≡ suc i = omega arith in
         rw place (end (omega arith) (rw (place, all) at e))

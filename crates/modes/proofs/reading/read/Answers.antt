@@ -1,4 +1,5 @@
 -- `modes::read` meets its contract: refused, nothing is written; otherwise the letters, then the modes of the letters, then the counts of the modes and the queued cells.
+use Rattle.std.proofs.Common.{arith}
 use Rattle.modes.proofs.ReadAnswers.{refused_by, passes, checked, word_long, few_modes, done}
 use Rattle.modes.proofs.reading.read.Goals as goal
 
@@ -38,4 +39,4 @@ returns c =
     let e = passes a.road a.cells.now a.up a.down a.letters.now a.modes.now c.have_bad_length-bad.result c.have_bad_length-bad.ensures c.in_ok-state.ensures.refusal in
     done a.road a.cells.now a.up a.down a.letters.now a.modes.now e
     c.write_letters.new.letters (rw (s.road, s.up, s.down, s.cells) at c.write_letters.ensures) c.write_modes.new.modes c.write_modes.ensures
-    c.tally.result c.queued.result c.tally.ensures (rw (s.road, s.cells) at c.queued.ensures)
+    c.tally.result _ c.tally.ensures (omega (arith, rw (s.road, s.cells) at c.queued.ensures))

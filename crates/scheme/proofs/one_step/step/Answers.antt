@@ -1,8 +1,7 @@
 -- `scheme::step` meets its contract: the loop keeps `StepUnderway`, and its end is the whole step.
-use Rattle.std.proofs.Common.{◌+◌, ◌-◌, length, get_or, arith}
-use Rattle.scheme.proofs.Range.{out_holds}
+use Rattle.std.proofs.Common.{arith}
 use Rattle.scheme.proofs.Laws.{lawful}
-use Rattle.scheme.proofs.InPlace.{begins, turns, ends}
+use Rattle.scheme.proofs.InPlace.{begins, turns, ends, holds}
 use Rattle.scheme.proofs.ByFaces.{step_faces}
 use Rattle.scheme.proofs.one_step.step.Goals as goal
 
@@ -13,7 +12,7 @@ loop-i-preserved c =
 
 pub returns : goal.returns
 returns c =
-    let stepped = ends (lawful c.args.pace c.args.caps.now) c.loop-i.invariant c.loop-i-test.false c.flow-last.ensures in
+    let stepped = ends (lawful c.args.pace c.args.caps.now) c.loop-i.invariant c.loop-i-test.false (omega arith) c.flow-last.ensures in
     record { stepped = stepped; stepped_by_faces = step_faces c.args.pace.road.road c.args.caps.now c.args.pace.road.accepted stepped }
 
 pub loop-i-init : goal.loop-i-init
@@ -21,17 +20,7 @@ loop-i-init c =
     begins (lawful c.args.pace c.args.caps.now) c.args.up c.args.down c.args.cells.now c.requires.some c.requires.below c.flow-first.ensures
 
 pub overflow_sub-cells : goal.overflow_sub-cells
-overflow_sub-cells c =
-    omega (
-      arith,
-      c.flow-out.ensures,
-      out_holds (lawful c.args.pace c.args.caps.now) (c.loop-i.i + 1) (get_or c.loop-i.cells c.loop-i.i 0) (get_or c.loop-i.cells (c.loop-i.i + 1) 0),
-    )
+overflow_sub-cells c = omega (arith, holds (lawful c.args.pace c.args.caps.now) c.flow-out.ensures)
 
 pub overflow_sub-cells-2 : goal.overflow_sub-cells-2
-overflow_sub-cells-2 c =
-    omega (
-      arith,
-      c.flow-last.ensures,
-      out_holds (lawful c.args.pace c.args.caps.now) (length c.args.cells.now) (get_or c.loop-i.cells (length c.args.cells.now - 1) 0) c.args.down,
-    )
+overflow_sub-cells-2 c = omega (arith, holds (lawful c.args.pace c.args.caps.now) c.flow-last.ensures)

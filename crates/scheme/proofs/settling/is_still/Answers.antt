@@ -12,7 +12,7 @@ returns c =
     let r = a.pace.road.road in
     inner_decide r a.caps.now a.up a.down a.cells.now a.pace.road.accepted c.requires.some c.flow-first.ensures c.flow-last.ensures (omega arith) c.all.result
     (cases_from_all _ _ _ (λ i. inner r a.caps.now a.up a.down a.cells.now i ≡ c.flow-first.result) (λ i. inner r a.caps.now a.up a.down a.cells.now i ≢ c.flow-first.result)
-    c.all.ensures.ran (YieldsList-from_range 0 (length a.cells.now - 1) (length a.cells.now - 1) refl (omega arith))
+    c.all.ensures.ran (YieldsList-from_range 0 _ (length a.cells.now - 1) refl (omega arith))
     (λ x q k. search (rules, tests)) (λ x q k. search (rules, tests)))
 
 pub returns-then-last-first : goal.returns-then-last-first
