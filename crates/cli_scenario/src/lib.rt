@@ -1,7 +1,9 @@
 // The reader of a scenario's text: lines of a keyword and values. A text means one thing only: `judge` says what is wrong
-// with it first, and `values` and `line_of` what its lines give to a key; `wrong_word` serves messages.
+// with it first, and `values` and `line_of` what its lines give to a key; `wrong_word` serves messages. `codes` has these
+// three for any byte.
 #![tactic(auto)]
 
+pub mod codes;
 mod finding;
 mod judging;
 mod listing;

@@ -14,7 +14,7 @@ fn fill(out: &mut [u64], from: usize, count: usize, value: u64)
 }
 
 // Internal: a value stored a number of times, as far as the list goes; how far it is then filled.
-fn append(out: &mut [u64], filled: usize, item: Item) -> usize
+pub fn append(out: &mut [u64], filled: usize, item: Item) -> usize
     requires { filled ≤ length out.old }
     ensures { Stored out.old out.new filled (replicate item.times item.value) result }
 {

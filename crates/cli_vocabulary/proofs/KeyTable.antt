@@ -1,9 +1,15 @@
--- The rows of the code's table are the definition's, one for each key, at its place.
-use mathlib.Core.Path.{◌≡◌, refl}
-use mathlib.Core.List.{map}
+-- The rows of the code's table are the definition's, one for each key, at its place; past the last there is no key.
+use mathlib.Core.Path.{◌≡◌, ◌∙◌, refl, ap, sym}
+use mathlib.Core.List.{List, [], ◌∷◌, map}
+use Prim.Native.Nat.{ℕ, zero, suc, ◌≤◌, ◌<◌}
+use native.Mathlib.Nat.{le_of_suc-le-suc, not-suc-le-zero}
 use lib.ListN.{length, get_or}
+use Rattle.std.specs.Prelude.{Some, None}
+use Rattle.std.specs.List.{slice_get}
+use Rattle.std.proofs.lemmas.Option.{slice_get_past}
 use Rattle.cli_vocabulary.specs.Ascii.{ascii}
 use Rattle.cli_vocabulary.specs.Keys.{key_row, keys, key_count, place}
+use Rattle.cli_vocabulary.specs.Codes.{key_at, none, entry_at, entry_of}
 use Rattle.cli_vocabulary.specs.declared.keys.Key.{Key}
 use Rattle.cli_vocabulary.specs.declared.keys.Key.TheVariants.{Road, Cells, Upstream, Downstream, Pair, Horizon, Word, Mode, Estimates, Bits, Forecast, Settle, Read, Fit, Rows, Candidate, Count, End, Density, Flow, Speed, Station, Readlast, Nearest, Totals, Caps}
 use Rattle.cli_vocabulary.specs.declared.keys.Row.{Row}
@@ -75,3 +81,51 @@ rows = refl
 pub rows_counted : length keys ≡ key_count
 unfolding keys
 rows_counted = refl
+
+-- the key of a row at a place; whatever a place past the last would read as
+key_there : (ks : List Key) (other : Row) (i : ℕ) → i < length ks → Some (get_or (map key_row ks) i other).0 ≡ slice_get ks i
+key_there [] other i h = absurd (not-suc-le-zero h)
+key_there (k ∷ ks) other zero h = ap Some (row_key k)
+key_there (k ∷ ks) other (suc i) h = key_there ks other i (le_of_suc-le-suc h)
+
+pub key_found_at : (other : Row) (code : ℕ) → code < key_count → Some (get_or TABLE code other).0 ≡ key_at code
+key_found_at other code h = ap (λ (rs : List Row). Some (get_or rs code other).0) rows ∙ key_there keys other code (rw rows_counted h)
+
+pub no_key_at : (code : ℕ) → key_count ≤ code → None ≡ key_at code
+no_key_at code h = sym (slice_get_past keys code (rw rows_counted h))
+
+pub no_key : (code : ℕ) → key_count ≤ code → none ≡ entry_of code
+no_key code h = ap entry_at (no_key_at code h)
+
+-- a key's code is its place; what is no key has none of these
+pub placed : (key : Key) → key_at (place key) ≡ Some key
+unfolding keys
+placed Road = refl
+placed Cells = refl
+placed Upstream = refl
+placed Downstream = refl
+placed Pair = refl
+placed Horizon = refl
+placed Word = refl
+placed Mode = refl
+placed Estimates = refl
+placed Bits = refl
+placed Forecast = refl
+placed Settle = refl
+placed Read = refl
+placed Fit = refl
+placed Rows = refl
+placed Candidate = refl
+placed Count = refl
+placed End = refl
+placed Density = refl
+placed Flow = refl
+placed Speed = refl
+placed Station = refl
+placed Readlast = refl
+placed Nearest = refl
+placed Totals = refl
+placed Caps = refl
+
+pub unplaced : (key : Key) (code : ℕ) → key_count ≤ code → code ≡ place key → ⊥
+unplaced key code h e = let neither : None ≡ Some key = no_key_at (place key) (rw e at h) ∙ placed key in cc

@@ -18,7 +18,7 @@ use Rattle.std.proofs.lemmas.List.Recursion.{is_position_or_len}
 use Rattle.std.proofs.lemmas.List.Sums.{fails_before_first}
 use Rattle.std.proofs.lemmas.List.Quantifiers.{position-Some}
 use Rattle.choice.specs.Choice.{pick}
-use Rattle.cli_vocabulary.specs.Pieces.{newline, blank, is_blank, cuts, before, grown, split, filled, words_in}
+use Rattle.cli_vocabulary.specs.Pieces.{newline, blank, is_blank, cuts, before, PieceEnds, grown, split, filled, words_in}
 
 -- a search for the first mark
 pub before_position : (mark : ℕ) (bs : List ℕ) → before mark bs ≡ position_or_len (cuts mark) bs
@@ -44,6 +44,18 @@ before_found mark bs = rw (← before_position mark bs) (by_test (ltb (before ma
     by_test : (t : Bool) → ltb (before mark bs) (length bs) ≡ t → unwrap_or (cond t (Some (before mark bs)) None) (length bs) ≡ before mark bs
     by_test true e = refl
     by_test false e = omega (arith, ltb-false _ _ e, before_bound mark bs)
+
+-- a piece from a place on, up to the next mark
+pub piece_ends : (mark from n : ℕ) (text : List ℕ) → from ≤ length text → n ≡ before mark (take (length text - from) (drop from text))
+    → PieceEnds text from mark (from + n)
+piece_ends mark from n text h e =
+    let all : take (length text - from) (drop from text) ≡ drop from text = take_all (length text - from) (drop from text) (le_of_eq (length-drop from text)) in
+    let here : n ≡ before mark (drop from text) = rw all at e in
+    record {
+      at = ap (λ (k : ℕ). from + k) here;
+      after = omega arith;
+      inside = omega (arith, here, before_bound mark (drop from text), length-drop from text);
+    }
 
 module _ (mark : ℕ) where
   -- the first piece with a byte before it, and the others

@@ -1,5 +1,5 @@
 -- Lines and words: a text cut at its marks.
-use Rattle.std.specs.Prelude.{Bool, List, [], ◌∷◌, ℕ, suc, eqb, take}
+use Rattle.std.specs.Prelude.{◌≡◌, Bool, List, [], ◌∷◌, ℕ, suc, ◌+◌, ◌≤◌, eqb, length, take, drop}
 use Rattle.choice.specs.Choice.{pick, or}
 
 -- the marks: newline ends a line, a blank a word; # starts a comment; ^ stands before a run's count
@@ -27,6 +27,12 @@ cuts mark b = pick (eqb mark blank) (is_blank b) (eqb b mark)
 unfoldable pub before : ℕ → List ℕ → ℕ
 before mark [] = 0
 before mark (b ∷ bs) = pick (cuts mark b) 0 (suc (before mark bs))
+
+-- where the piece that starts at a place ends: at the next mark, or with the text, and so in the text
+pub record PieceEnds (text : List ℕ) (from mark end : ℕ) : Type 0 where
+  pub at : end ≡ from + before mark (drop from text)
+  pub after : from ≤ end
+  pub inside : end ≤ length text
 
 -- b put before the first piece, which it starts where there is none
 unfoldable pub grown : ℕ → List (List ℕ) → List (List ℕ)

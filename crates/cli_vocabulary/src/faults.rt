@@ -1,6 +1,6 @@
 // Faults: what may be wrong with a text.
 
-// Each with the number of its message, which the messages' lines are counted by.
+// Numbered from 1, as they were before they had names; messages go by the names.
 #[derive(Clone, Copy, PartialEq, Eq)]
 pub enum Fault {
     LongLine = 1,

@@ -2,6 +2,7 @@
 ghost use Rattle.std.specs.Prelude.{◌≡◌, ◌==◌, find};
 ghost use Rattle.std.specs.List.{list_all};
 ghost use Rattle.cli_vocabulary.specs.Keys.{key_row, keyword, values_of, most_of, is_name, key_named};
+ghost use Rattle.cli_vocabulary.specs.Codes.{key_at};
 
 // What a line may begin with.
 #[derive(Clone, Copy, PartialEq, Eq)]
@@ -51,7 +52,7 @@ struct Row(Key, [u8; 10], Values, u64);
 // The largest number: a code or a mode is one byte, a bit pattern or a total 64 bits, any other number 32 bits.
 const BYTE: u64 = u8::MAX as u64;
 
-const NUMBER: u64 = u32::MAX as u64;
+pub const NUMBER: u64 = u32::MAX as u64;
 
 const WIDE: u64 = u64::MAX;
 
@@ -93,6 +94,18 @@ impl Key {
     {
         let row = row_named(word)?;
         Some(row.0)
+    }
+
+    // The key that a code is the place of, from 0; none from `KEYS` on.
+    pub fn with_code(code: u8) -> Option<Key>
+        ensures { result ≡ key_at code }
+    {
+        let place = code as usize;
+        if place < KEYS {
+            Some(TABLE[place].0)
+        } else {
+            None
+        }
     }
 
     // The keyword, padded with blanks to ten letters.

@@ -1,13 +1,13 @@
 // Lines and words: the pieces of a text, one after the other.
-ghost use Rattle.std.specs.Prelude.{◌≡◌, not, position, take, drop};
-ghost use Rattle.cli_vocabulary.specs.Pieces.{is_blank, cuts, before, words_in, words};
+ghost use Rattle.std.specs.Prelude.{◌≡◌, ◌≤◌, not, length, position, take, drop};
+ghost use Rattle.cli_vocabulary.specs.Pieces.{is_blank, cuts, before, PieceEnds, words_in, words};
 
 // The marks that a text is cut at. A blank stands for a space, a tab or a carriage return.
-const NEWLINE: u8 = b'\n';
+pub const NEWLINE: u8 = b'\n';
 
-const BLANK: u8 = b' ';
+pub const BLANK: u8 = b' ';
 
-const HASH: u8 = b'#';
+pub const HASH: u8 = b'#';
 
 pub const CARET: u8 = b'^';
 
@@ -49,6 +49,14 @@ fn before(text: &[u8], mark: u8) -> usize
     ensures { result ≡ before mark text.now }
 {
     first(text, mark).unwrap_or(text.len())
+}
+
+// Internal: where the piece that starts at `from` ends: at the next mark, whatever byte that is, or with the text.
+pub fn piece_end(text: &[u8], from: usize, mark: u8) -> usize
+    requires { from ≤ length text.now }
+    ensures { PieceEnds text.now from mark result }
+{
+    from + before(&text[from..], mark)
 }
 
 // Internal: a text cut before its first mark.
