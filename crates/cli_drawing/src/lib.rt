@@ -81,8 +81,9 @@ pub fn act<R: Env + Files>(
     to: Target,
     run: &mut Forecast,
 ) -> Result<Status, Refused> {
-    let shades = steps::worked(run).map_err(|refusal| run.refused(refusal))?;
-    let picture = Picture::of(shades, run.cells.len(), run.upstream.len() + 1);
+    let mut shades = steps::blank();
+    steps::work(run, &mut shades).map_err(|refusal| run.refused(refusal))?;
+    let picture = Picture::of(&shades, run.cells.len(), run.upstream.len() + 1);
     page.send();
     let status = saved(rt, page.streams(), through, to, &picture);
     if status == Status::Done {

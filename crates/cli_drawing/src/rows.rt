@@ -1,4 +1,8 @@
 // The picture: its sizes, and its rows, lowest cell first, written to a file or a stream.
+ghost use Rattle.std.specs.Prelude.{◌≡◌, ◌+◌, ◌*◌, ◌/◌, length, min};
+ghost use Rattle.arrayvec.specs.ArrayVec.{array_vec_len};
+ghost use Rattle.road.specs.Ceilings.{horizon_ceiling};
+
 use super::steps::{STEPS, Shades};
 use arrayvec::ArrayVec;
 use cli_request::numbers;
@@ -16,10 +20,24 @@ const START: usize = 1078;
 // stretched to at most 1,024 pixels, which is less.
 const ROW: usize = (STEPS + 3) / 4 * 4;
 
+// The start of a file, before it is written.
+fn blank_start() -> [u8; START]
+    ensures { 1078 ≡ length result }
+{
+    [0; START]
+}
+
+// A row of so many bytes, as far as there is room.
+fn blank_row(bytes: usize) -> ArrayVec<u8, ROW>
+    ensures { array_vec_len result ≡ min bytes ((horizon_ceiling + 4) / 4 * 4) }
+{
+    numbers::filled(0, bytes)
+}
+
 // A picture of so many cells at so many columns of time: the pixels of a column across and of a cell upward, and the whole.
-#[derive(Drop)]
-pub struct Picture {
-    shades: Shades,
+#[derive(Clone, Copy)]
+pub struct Picture<'a> {
+    shades: &'a Shades,
     cells: usize,
     columns: usize,
     pub across: u32,
@@ -36,8 +54,8 @@ fn small(n: usize) -> u32 {
     n.min(65535) as u32
 }
 
-impl Picture {
-    pub fn of(shades: Shades, cells: usize, columns: usize) -> Picture {
+impl<'a> Picture<'a> {
+    pub fn of(shades: &'a Shades, cells: usize, columns: usize) -> Picture<'a> {
         let across = cli_picture::scale(small(columns), WIDE);
         let upward = cli_picture::scale(small(cells), HIGH);
         Picture {
@@ -54,7 +72,7 @@ impl Picture {
     // The rows of one cell: the same row, as often as a cell is high.
     fn write_cell<W: Write>(&self, to: &mut W, shades: &[u8]) -> Result<(), Error> {
         let bytes = cli_picture::row_bytes(self.width) as usize;
-        let mut row: ArrayVec<u8, ROW> = numbers::filled(0, bytes);
+        let mut row = blank_row(bytes);
         cli_picture::stretch(shades, self.across, &mut row);
         for _ in 0..self.upward {
             to.write_all(&row)?;
@@ -64,10 +82,11 @@ impl Picture {
 
     // The whole file.
     pub fn write<W: Write>(&self, to: &mut W) -> Result<(), Error> {
-        let mut start = [0; START];
+        let mut start = blank_start();
         cli_picture::write_start(self.width, self.height, &mut start);
         to.write_all(&start)?;
-        for shades in self.shades.iter().take(self.cells) {
+        let rows = self.shades;
+        for shades in rows.iter().take(self.cells) {
             let columns = self.columns.min(shades.len());
             self.write_cell(to, &shades[..columns])?;
         }

@@ -1,4 +1,6 @@
 // The text: from a file or from standard input, whole or not at all.
+ghost use Rattle.std.specs.Prelude.{◌≡◌, ◌<◌, IfOk, length};
+
 use cli_arguments::options::Source;
 use cli_arguments::words;
 use cli_request::Status;
@@ -11,6 +13,13 @@ use std::rt::{Env, Files};
 const MOST: usize = 262_144;
 
 pub const ROOM: usize = MOST + 1;
+
+// That room, with its equation, so that a moved one is refused here.
+pub fn room() -> usize
+    ensures { result ≡ 262145 }
+{
+    ROOM
+}
 
 // Why a text is not there: it is too long, or the system refused something.
 enum Unread {
@@ -44,7 +53,9 @@ impl Unread {
 }
 
 // All that a reader gives, where it leaves room. A read brings as many bytes as it likes: no `for` steps through them.
-fn filled<'a, R: Read>(from: &mut R, room: &'a mut [u8]) -> Result<&'a [u8], Unread> {
+fn filled<'a, R: Read>(from: &mut R, room: &'a mut [u8]) -> Result<&'a [u8], Unread>
+    ensures { IfOk result (λ text. length text.now < length room.old) }
+{
     let mut end = 0;
     while end < room.len() {
         match from.read(&mut room[end..])? {
@@ -55,7 +66,9 @@ fn filled<'a, R: Read>(from: &mut R, room: &'a mut [u8]) -> Result<&'a [u8], Unr
     Err(Unread::TooLong)
 }
 
-fn of_file<'a, R: Files>(rt: &R, path: &[u8], room: &'a mut [u8]) -> Result<&'a [u8], Unread> {
+fn of_file<'a, R: Files>(rt: &R, path: &[u8], room: &'a mut [u8]) -> Result<&'a [u8], Unread>
+    ensures { IfOk result (λ text. length text.now < length room.old) }
+{
     let mut file = File::open(rt, words::path(path)?)?;
     filled(&mut file, room)
 }
@@ -66,7 +79,9 @@ pub fn read<'a, R: Env + Files + Input>(
     streams: Streams,
     source: Source,
     room: &'a mut [u8],
-) -> Result<&'a [u8], Status> {
+) -> Result<&'a [u8], Status>
+    ensures { IfOk result (λ text. length text.now < length room.old) }
+{
     match source {
         Source::StandardInput => filled(&mut rt.reader(), room).map_err(|unread| unread.tell(
             streams,

@@ -48,14 +48,22 @@ pub(crate) fn needed(action: Action) -> &'static [Key] {
 
 // Whether the horizon is given as 0.
 fn goes_nowhere(text: &[u8]) -> bool {
+    if !is_given(text, Key::Horizon) {
+        return false;
+    }
     let [horizon]: [u32; 1] = numbers::numbers(text, Key::Horizon);
-    is_given(text, Key::Horizon) && horizon == 0
+    horizon == 0
 }
 
 // Whether a text lacks a key that it needs. Only a forecast of no step goes without ends.
 pub(crate) fn lacks(text: &[u8], key: Key) -> bool {
-    let is_spared = matches!(key, Key::Upstream | Key::Downstream) && goes_nowhere(text);
-    !is_given(text, key) && !is_spared
+    if is_given(text, key) {
+        return false;
+    }
+    match key {
+        Key::Upstream | Key::Downstream => !goes_nowhere(text),
+        _ => true,
+    }
 }
 
 // Exactly one of estimates and bits.
@@ -69,11 +77,9 @@ fn estimates(text: &[u8]) -> Result<(), Unmet> {
 
 // A density alone, a flow and a speed, or a speed alone.
 fn reading(text: &[u8]) -> Result<(), Unmet> {
-    let flow = is_given(text, Key::Flow);
-    let speed = is_given(text, Key::Speed);
     match is_given(text, Key::Density) {
-        true if flow || speed => Err(Unmet::MixedReading),
-        false if !speed => Err(Unmet::NoReading),
+        true if is_given(text, Key::Flow) || is_given(text, Key::Speed) => Err(Unmet::MixedReading),
+        false if !is_given(text, Key::Speed) => Err(Unmet::NoReading),
         _ => Ok(()),
     }
 }

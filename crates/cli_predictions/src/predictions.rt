@@ -1,8 +1,7 @@
 // The row prediction.
 use arrayvec::ArrayVec;
-use cli_request::numbers::{CELLS, FACES};
+use cli_request::numbers::CELLS;
 use cli_request::{Refused, State, numbers};
-use cli_vocabulary::Key;
 use printing::{Form, Page, plural};
 
 fn report(page: &mut Page, divisor: u32, numerators: &[i64]) {
@@ -24,7 +23,7 @@ fn report(page: &mut Page, divisor: u32, numerators: &[i64]) {
 // The rows of a text.
 pub fn act(page: &mut Page, text: &[u8]) -> Result<(), Refused> {
     let state = State::of(text);
-    let word: ArrayVec<u8, FACES> = numbers::list(text, Key::Word);
+    let word = numbers::word(text);
     let mut numerators: ArrayVec<i64, CELLS> = numbers::filled(0, state.cells.len());
     rows::predict(
         state.road,

@@ -1,8 +1,5 @@
 // The fit test.
-use arrayvec::ArrayVec;
-use cli_request::numbers::FACES;
 use cli_request::{Refused, State, numbers};
-use cli_vocabulary::Key;
 use printing::{Form, Page};
 
 // Whether every face of the word holds, or the lowest that does not.
@@ -21,7 +18,7 @@ fn report(page: &mut Page, misfit: Option<u32>) {
 // The fit test of a text.
 pub fn act(page: &mut Page, text: &[u8]) -> Result<(), Refused> {
     let state = State::of(text);
-    let word: ArrayVec<u8, FACES> = numbers::list(text, Key::Word);
+    let word = numbers::word(text);
     let misfit = modes::fit(state.road, &state.cells, state.up, state.down, &word).map_err(
         |refusal| state.refused(refusal),
     )?;

@@ -15,3 +15,9 @@ pub record Worst (a b worst : Status) : Type 0 where
   pub first : digit a ≤ digit worst
   pub second : digit b ≤ digit worst
   pub one : (digit a ≤ digit b → worst ≡ b) × (digit b ≤ digit a → worst ≡ a)
+
+-- the same of numbers, any two
+pub record WorstOf (a b worst : ℕ) : Type 0 where
+  pub first : a ≤ worst
+  pub second : b ≤ worst
+  pub one : (a ≤ b → worst ≡ b) × (b ≤ a → worst ≡ a)

@@ -1,7 +1,8 @@
 // What a text gives to an action: a state with its ends, or all that a forecast takes.
-ghost use Rattle.std.specs.Prelude.{◌≡◌, IfOk, length, min};
+ghost use Rattle.std.specs.Prelude.{◌≡◌, ◌+◌, IfOk, IsSome, IsNone, length, min};
 ghost use Rattle.arrayvec.specs.ArrayVec.{array_vec_len};
-ghost use Rattle.cli_scenario.specs.Values.{values_of};
+ghost use Rattle.road.specs.Ceilings.{cells_ceiling, horizon_ceiling};
+ghost use Rattle.cli_scenario.specs.Values.{line_of, values_of};
 
 use super::numbers::{CELLS, ENDS, FACES};
 use super::refusals::{Lengths, Refused};
@@ -25,7 +26,8 @@ pub struct State {
 impl State {
     // The state at the start.
     pub fn of(text: &[u8]) -> State
-        ensures { array_vec_len result.cells ≡ min (length (values_of Key.Cells text.now)) CELLS }
+        ensures clipped { array_vec_len result.cells ≡ min (length (values_of Key.Cells text.now)) CELLS }
+        ensures cells { array_vec_len result.cells ≡ min (length (values_of Key.Cells text.now)) (cells_ceiling + 1) }
     {
         State::at(text, numbers::list(text, Key::Cells))
     }
@@ -69,7 +71,12 @@ pub struct Forecast {
 
 impl Forecast {
     pub fn of(text: &[u8]) -> Forecast
-        ensures { array_vec_len result.cells ≡ min (length (values_of Key.Cells text.now)) CELLS }
+        ensures clipped { array_vec_len result.cells ≡ min (length (values_of Key.Cells text.now)) CELLS }
+        ensures cells { array_vec_len result.cells ≡ min (length (values_of Key.Cells text.now)) (cells_ceiling + 1) }
+        ensures upstream { array_vec_len result.upstream ≡ min (length (values_of Key.Upstream text.now)) (horizon_ceiling + 1) }
+        ensures downstream { array_vec_len result.downstream ≡ min (length (values_of Key.Downstream text.now)) (horizon_ceiling + 1) }
+        ensures caps { IsSome (line_of Key.Caps text.now) → array_vec_len result.caps ≡ min (length (values_of Key.Caps text.now)) (cells_ceiling + 2) }
+        ensures open { IsNone (line_of Key.Caps text.now) → array_vec_len result.caps ≡ min (array_vec_len result.cells + 1) (cells_ceiling + 2) }
     {
         let cells: ArrayVec<u32, CELLS> = numbers::list(text, Key::Cells);
         let [horizon]: [u32; 1] = numbers::numbers(text, Key::Horizon);

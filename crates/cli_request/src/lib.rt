@@ -14,4 +14,4 @@ pub use action::Action;
 pub use inputs::{Forecast, State};
 pub use keys::is_given;
 pub use refusals::{Lengths, Refused};
-pub use status::Status;
+pub use status::{Status, worst};

@@ -1,6 +1,7 @@
 // The values of a text's keys, as the library takes them.
-ghost use Rattle.std.specs.Prelude.{◌≡◌, ◌<◌, ◌^◌, length, min, take, replicate};
+ghost use Rattle.std.specs.Prelude.{◌≡◌, ◌+◌, ◌<◌, ◌^◌, length, min, take, replicate};
 ghost use Rattle.arrayvec.specs.ArrayVec.{array_vec_len};
+ghost use Rattle.road.specs.Ceilings.{cells_ceiling, horizon_ceiling};
 ghost use Rattle.cli_scenario.specs.Values.{values_of};
 
 use arrayvec::ArrayVec;
@@ -15,6 +16,27 @@ pub const CELLS: usize = Road::CELLS as usize + 1;
 pub const ENDS: usize = Road::HORIZON as usize + 1;
 
 pub const FACES: usize = Road::CELLS as usize + 2;
+
+// The room for cells. Each room has such a function, with the equation to its ceiling, so that a moved room is refused here.
+pub fn cells_room() -> usize
+    ensures { result ≡ cells_ceiling + 1 }
+{
+    CELLS
+}
+
+// The room for the ends of one side.
+pub fn ends_room() -> usize
+    ensures { result ≡ horizon_ceiling + 1 }
+{
+    ENDS
+}
+
+// The room for a word's letters, or for the caps of the faces.
+pub fn faces_room() -> usize
+    ensures { result ≡ cells_ceiling + 2 }
+{
+    FACES
+}
 
 // Numbers as the library takes them. A judged text has none that does not fit.
 fn narrowed<T, const N: usize>(values: [u64; N]) -> [T; N]
@@ -41,6 +63,13 @@ where
     let mut list = ArrayVec::from(narrowed(values));
     list.truncate(count);
     list
+}
+
+// The word, clipped to the room.
+pub fn word(text: &[u8]) -> ArrayVec<u8, FACES>
+    ensures { array_vec_len result ≡ min (length (values_of Key.Word text.now)) (cells_ceiling + 2) }
+{
+    list(text, Key::Word)
 }
 
 // The numbers of a key that takes so many; 0 where the text has none.

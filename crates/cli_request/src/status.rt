@@ -1,5 +1,5 @@
 // The status of a run: of several the largest. 4, a run that was cut off, is the script's to say.
-ghost use Rattle.cli_request.specs.Status.{Worst};
+ghost use Rattle.cli_request.specs.Status.{Worst, WorstOf};
 
 use std::fs::OpenOptions;
 use std::io::Write;
@@ -34,4 +34,11 @@ impl Status {
             let _ = file.write_all(&[b'0' + self as u8]);
         }
     }
+}
+
+// The larger of two statuses by their digits, which are any bytes.
+pub fn worst(a: u8, b: u8) -> u8
+    ensures { WorstOf a b result }
+{
+    a.max(b)
 }
